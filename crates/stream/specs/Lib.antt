@@ -1,0 +1,2 @@
+-- The bytes of a stream by their places.
+pub mod Stream
