@@ -1,0 +1,1 @@
+// Worked cases of the definitions in model: rows that the checker computes. No code stands here.
