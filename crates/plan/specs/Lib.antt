@@ -1,0 +1,5 @@
+-- Laws by which loops over record numbers make a catalogue: what is kept, found first or laid one after the other, by number, and tables made of parts.
+pub mod Numbers
+pub mod Tables
+pub mod Sorted
+pub mod Shared
