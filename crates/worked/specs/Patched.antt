@@ -38,16 +38,25 @@ said ps = loaded meter ps false
 abbrev after : List Patch → List (List ℕ)
 after ps = map (λ m. m .own) (catalogueIn (said ps) .maps)
 
--- as it is lent: names and data in one buffer
-abbrev lent : List ℕ → ℕ
-lent es = elim (called meter es (114 ∷ 97 ∷ 116 ∷ 101 ∷ 21 ∷ 22 ∷ 23 ∷ 24 ∷ []) false (room 99 0 0 200 0 300) .reply) as (λ a. ℕ) [ Answer.Accepted h ↦ 0 | Answer.Refused r ↦ r .number * 100 + r .entry ]
+-- as it is lent, names and data in one buffer: the number and the entry that are said as one number, 0 where it is accepted
+abbrev lentOver : List ℕ → List ℕ → ℕ
+lentOver bs es =
+    elim (called meter es bs false (room 99 0 0 200 0 300) .reply) as (λ a. ℕ) [ Answer.Accepted h ↦ 0 | Answer.Refused r ↦ r .number * 100 + r .entry ]
 
--- ---- 18. A patch entry's range lies outside its lent buffer, or its mark is neither 0 nor 1 (the number and the entry are shown as one number).
+abbrev lent : List ℕ → ℕ
+lent es = lentOver (114 ∷ 97 ∷ 116 ∷ 101 ∷ 21 ∷ 22 ∷ 23 ∷ 24 ∷ []) es
+
+-- ---- 18. A patch entry's range lies outside its lent buffer, or its mark is neither 0 nor 1.
 
 -- name at 0 of 4 bytes, data at 4 of 4 bytes
 lent-good : lent (0 ∷ 4 ∷ 4 ∷ 4 ∷ 1 ∷ []) ≡ 0
 unfolding called
 lent-good = refl
+
+-- the data before the name, with a byte between
+lent-apart : lentOver (21 ∷ 22 ∷ 23 ∷ 24 ∷ 9 ∷ 114 ∷ 97 ∷ 116 ∷ 101 ∷ []) (5 ∷ 4 ∷ 0 ∷ 4 ∷ 1 ∷ []) ≡ 0
+unfolding called
+lent-apart = refl
 
 lent-name-past : lent (5 ∷ 4 ∷ 4 ∷ 4 ∷ 1 ∷ []) ≡ 1801
 unfolding called
