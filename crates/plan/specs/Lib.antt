@@ -3,3 +3,5 @@ pub mod Numbers
 pub mod Tables
 pub mod Sorted
 pub mod Shared
+pub mod ByNumber
+pub mod Walk

@@ -210,7 +210,7 @@ module _ (addr : ℕ → ℕ) where
           let f : eqb (addr y) (addr x) ≡ false = ne-eqb (addr y) (addr x) (omega arith) in
           rw f (behind (leb (addr x) (addr z)) refl k r)
 
-  alike : (a i j : ℕ) → eqb (addr i) a ≡ true → eqb (addr j) a ≡ true → byAddress i j ≡ true
+  pub alike : (a i j : ℕ) → eqb (addr i) a ≡ true → eqb (addr j) a ≡ true → byAddress i j ≡ true
   alike a i j p q = let u : addr i ≡ a = eqb-true _ _ p in let v : addr j ≡ a = eqb-true _ _ q in le-leb (addr i) (addr j) (omega arith)
 
   pub repeat-sorted : (n : ℕ) (l : List ℕ) → RisesFrom n l → repeatIn [] l ≡ leastAgain (sorted byAddress l)
