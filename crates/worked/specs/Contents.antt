@@ -135,6 +135,11 @@ text-empty : card (text 3 ".text" [] ∷ []) (func 1 3 "a" 0 8 ∷ []) [] .funct
 unfolding loaded
 text-empty = refl
 
+text-at-the-top : card (atAddress 18446744073709551615 (text 3 ".text" (says 1)) ∷ []) (func 1 3 "a" 18446744073709551615 8 ∷ []) [] .functions
+    ≡ function 3 18446744073709551615 0 "a" (said 1 ∷ []) ∷ []
+unfolding loaded
+text-at-the-top = refl
+
 text-no-programs : card (text 3 ".text" (says 1) ∷ []) (func 1 3 "a" 0 8 ∷ []) [] .programs ≡ []
 unfolding loaded
 text-no-programs = refl
@@ -157,6 +162,11 @@ legacy-maps = refl
 words-little-in-big : catalogueIn (loaded (deposit 1 (plain 3 "maps" record28 ∷ []) (global 1 3 "m" 0 28 ∷ []) []) [] false) .maps ≡ legacyMapOf "m" 3 1 (words 1 4 8 2 3 5 1) ∷ []
 unfolding loaded
 words-little-in-big = refl
+
+-- by prefix too
+maps-by-prefix : card (plain 3 "maps/x" record28 ∷ []) (global 1 3 "m" 0 28 ∷ []) [] .maps ≡ legacyMapOf "m" 3 1 (words 1 4 8 2 3 5 1) ∷ []
+unfolding loaded
+maps-by-prefix = refl
 
 -- one name space: section order, then symbol order
 later-map : card (plain 1 "maps" record28 ∷ plain 2 ".data" (7 ∷ []) ∷ []) (global 1 1 ".data" 0 28 ∷ global 2 1 "m" 0 28 ∷ global 3 1 "m" 0 20 ∷ []) [] .maps ≡ dataMapOf ".data" 2 Kind.Data (words 2 4 1 1 0 0 0) (7 ∷ []) ∷ legacyMapOf "m" 1 3 (words 1 4 8 2 3 0 0) ∷ []
