@@ -1,0 +1,3 @@
+-- Laws of the licence's and the version's bytes.
+pub mod Zeros
+pub mod Four
