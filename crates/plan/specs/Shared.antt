@@ -8,7 +8,7 @@ use Prim.Native.Nat.{ℕ, suc, _<_, _≤_, min}
 use native.Mathlib.Omega.{arith}
 use borrow.Author.Tests.{eqb-true, eqb-false, eq-eqb, ne-eqb, leb-true, leb-false, le-leb}
 use lib.Dec.{eqb, leb}
-use Rattle.lists.specs.Tests.{both-not}
+use Rattle.lists.specs.Tests.{true-not-false}
 use Rattle.model.specs.Bytes.{push, firstIn, find, orElse, maybe, isSome}
 use Rattle.model.specs.Object.{Section, Symbol}
 use Rattle.model.specs.Refusals.{ofSymbol, sharedRefusal}

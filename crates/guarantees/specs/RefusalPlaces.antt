@@ -1,0 +1,325 @@
+-- What a refusal of an object, a patch list or a deposit says: a number from 1 to 23, and the places that document 01 says this number names.
+use mathlib.Core.Path.{_≡_, refl, sym, ap, _∙_}
+use mathlib.Core.Logic.{inl, inr}
+use mathlib.Core.Bool.{Bool, true, false, cond, _&&_, _||_, not, Bool·beq}
+use mathlib.Core.List.{List, [], _∷_}
+use mathlib.Core.Option.{Option, none, some}
+use Prim.Native.Nat.{ℕ, zero, suc, _+_, _≤_}
+use native.Mathlib.Omega.{arith}
+use borrow.Author.Tests.{leb-true}
+use lib.Dec.{eqb, ltb, leb}
+use lib.ListN.{length}
+use Rattle.model.specs.declared.SectionIndex.{SectionIndex}
+use Rattle.model.specs.declared.SymbolIndex.{SymbolIndex}
+use Rattle.model.specs.declared.Endianness.{Endianness}
+use Rattle.model.specs.declared.EbpfSectionKind.{EbpfSectionKind as Kind}
+use Rattle.model.specs.declared.ParsedLicense.{ParsedLicense}
+use Rattle.model.specs.declared.ParsedVersion.{ParsedVersion}
+use Rattle.model.specs.declared.ParsedProgramSection.{ParsedProgramSection}
+use Rattle.model.specs.declared.Refusal.{Refusal}
+use Rattle.model.specs.Bytes.{ascii, same, orElse, firstIn, find, maybe, isSome, _∈_}
+use Rattle.model.specs.Object.{Section, Symbol, Object, Patch}
+use Rattle.model.specs.SectionKind.{isKind, kindOf}
+use Rattle.model.specs.ProgramName.{fromStr, sectionNumber}
+use Rattle.model.specs.LicenceVersion.{parseLicense, licenseNumber, parseVersion, versionNumber}
+use Rattle.model.specs.Instruction.{invalidProgramCode}
+use Rattle.model.specs.Catalogue.{Map}
+use Rattle.model.specs.Symbols.{liesIn, isProgram, symbolsOf, programSymbols, isText, definedText, symbolAt, Stop, stops, top, walkOf, firstNamed}
+use Rattle.model.specs.Contents.{invalidMapDefinition, recordOf, catalogueOf}
+use Rattle.model.specs.Refusals.{noSection, noSymbol, ofSection, ofSymbol, ofEntry, ofNumber, isEmpty, untargeted, passes, relocRefusal, licenceRefusal, versionRefusal, programSymbolRefusal, programRefusal, mapSymbolRefusal, mapsRefusal, sharedRefusal, stopRefusal, textRefusal, kindRefusal, sectionRefusal, objectRefusal, bearers, placeRefusal, bearerRefusal, entryRefusal, patchRefusal, refusalOf}
+use Rattle.model.specs.Deposit.{frameOk, streamOk, objectOf, hasBtf, ofDeposit, depositRefusal}
+use Rattle.guarantees.specs.OptionsAndLists.{not-some, true-not-false, both-true}
+use Rattle.guarantees.specs.TableLaws.{keep-∈}
+
+-- '4 to 17 name the section'
+abbrev pub namesSection : ℕ → Bool
+namesSection n = leb 4 n && leb n 17
+
+-- '10, 11 .., 13 to 16 also the symbol'
+abbrev pub namesSymbol : ℕ → Bool
+namesSymbol n = (leb 10 n && leb n 11) || (leb 13 n && leb n 16)
+
+-- '18 to 23 only the entry'
+abbrev pub namesEntry : ℕ → Bool
+namesEntry n = leb 18 n && leb n 23
+
+-- a section of the object; 'Places not named are 0.'
+abbrev pub SectionPlace : Object → SectionIndex → Bool → Type 0
+SectionPlace o i true = (s : Section) × (s ∈ o .sections) × (i ≡ s .index)
+SectionPlace o i false = i ≡ noSection
+
+abbrev pub SymbolPlace : Object → SymbolIndex → Bool → Type 0
+SymbolPlace o i true = (y : Symbol) × (y ∈ o .symbols) × (i ≡ y .index)
+SymbolPlace o i false = i ≡ noSymbol
+
+-- 'the entry, from 1'
+abbrev pub EntryPlace : List Patch → ℕ → Bool → Type 0
+EntryPlace ps e true = (1 ≤ e) × (e ≤ length ps)
+EntryPlace ps e false = e ≡ 0
+
+-- 'a refusal names section, symbol and list entry'
+pub record Names (o : Object) (ps : List Patch) (r : Refusal) : Type 0 where
+  pub section : SectionPlace o (r .section) (namesSection (r .number))
+  pub symbol : SymbolPlace o (r .symbol) (namesSymbol (r .number))
+  pub entry : EntryPlace ps (r .entry) (namesEntry (r .number))
+
+abbrev Said : Object → List Patch → Option Refusal → Type 0
+Said o ps none = Unit {0}
+Said o ps (some r) = (1 ≤ r .number) × (r .number ≤ 23) × Names o ps r
+
+pub record Says (o : Object) (ps : List Patch) (r : Option Refusal) : Type 0 where
+  pub said : Said o ps r
+
+-- ---- what is found is a member
+
+find-∈ : {A : Type 0} (p : A → Bool) (x : A) (xs : List A) → find p xs ≡ some x → x ∈ xs
+unfolding find firstIn
+find-∈ p x [] e = not-some x (sym e)
+find-∈ p x (y ∷ xs) e = go (p y) e (find-∈ p x xs)
+  where
+    go : (b : Bool) → orElse (cond b (some y) none) (find p xs) ≡ some x → (find p xs ≡ some x → x ∈ xs) → x ∈ (y ∷ xs)
+    go true e r = let q : x ≡ y = cc in inl q
+    go false e r = inr (r e)
+
+-- the symbol that a walk meets is among those that it searches
+stop-∈ : (n : ℕ) (s : Section) (ys : List Symbol) (at : ℕ) (p : Stop) (y : Symbol) → p ∈ stops n s ys at → p .met ≡ some y → y ∈ ys
+unfolding stops symbolAt
+stop-∈ zero s ys at p y m e = absurd m
+stop-∈ (suc n) s ys at p y m e = go (ltb at (length (s .bytes))) (symbolAt s ys at) refl m (λ z k. stop-∈ n s ys (at + z .size) p y k e)
+  where
+    here : (b : Bool) → cond b (find (λ z. eqb (z .address) (s .address + at)) ys) none ≡ some y → y ∈ ys
+    here true q = find-∈ (λ z. eqb (z .address) (s .address + at)) y ys q
+    here false q = not-some y (sym q)
+
+    go : (b : Bool) (t : Option Symbol) → symbolAt s ys at ≡ t
+        → p ∈ cond b (record { at = at; met = t } ∷ maybe t [] (λ z. stops n s ys (at + z .size))) []
+        → ((z : Symbol) → p ∈ stops n s ys (at + z .size) → y ∈ ys)
+        → y ∈ ys
+    go true t q (inl k) r = here (leb (s .address + at) top) (q ∙ sym (ap (λ x. x .met) k) ∙ e)
+    go true none q (inr k) r = absurd k
+    go true (some z) q (inr k) r = r z k
+    go false t q k r = absurd k
+
+-- ---- ways to join refusals
+
+beq-is : (a b : Bool) → Bool·beq a b ≡ true → a ≡ b
+beq-is true true e = refl
+beq-is true false e = true-not-false (sym e)
+beq-is false true e = true-not-false (sym e)
+beq-is false false e = refl
+
+-- a number from 1 to 23 that names a section, a symbol, an entry or not
+abbrev fitting : Bool → Bool → Bool → ℕ → Bool
+fitting i y e n = (leb 1 n && leb n 23) && (Bool·beq (namesSection n) i && (Bool·beq (namesSymbol n) y && Bool·beq (namesEntry n) e))
+
+module _ (o : Object) (ps : List Patch) where
+  none-says : Says o ps none
+  none-says = record { said = tt }
+
+  or-says : {a b : Option Refusal} → Says o ps a → Says o ps b → Says o ps (orElse a b)
+  or-says {a} {b} h k = go a h
+    where
+      go : (a : Option Refusal) → Says o ps a → Says o ps (orElse a b)
+      go none h = k
+      go (some r) h = h
+
+  first-says : {A : Type 0} (f : A → Option Refusal) (xs : List A) → ((x : A) → x ∈ xs → Says o ps (f x)) → Says o ps (firstIn f xs)
+  unfolding firstIn
+  first-says f [] h = none-says
+  first-says f (x ∷ xs) h = or-says (h x (inl refl)) (first-says f xs (λ y m. h y (inr m)))
+
+  maybe-says : {A : Type 0} (m : Option A) (a : Option Refusal) (f : A → Option Refusal) → Says o ps a → ((x : A) → m ≡ some x → Says o ps (f x)) → Says o ps (maybe m a f)
+  maybe-says none a f h k = h
+  maybe-says (some x) a f h k = k x refl
+
+  places : (r : Refusal) (i y e : Bool) → fitting i y e (r .number) ≡ true → SectionPlace o (r .section) i → SymbolPlace o (r .symbol) y → EntryPlace ps (r .entry) e
+      → Says o ps (some r)
+  places r i y e t p q w =
+      let n = r .number in
+      let (a, b) = both-true (leb 1 n && leb n 23) (Bool·beq (namesSection n) i && (Bool·beq (namesSymbol n) y && Bool·beq (namesEntry n) e)) t in
+      let (c, d) = both-true (leb 1 n) (leb n 23) a in
+      let (f, g) = both-true (Bool·beq (namesSection n) i) (Bool·beq (namesSymbol n) y && Bool·beq (namesEntry n) e) b in
+      let (h, k) = both-true (Bool·beq (namesSymbol n) y) (Bool·beq (namesEntry n) e) g in
+      record {
+        said = (
+          leb-true 1 n c,
+          leb-true n 23 d,
+          record {
+            section = rw (beq-is (namesSection n) i f) p;
+            symbol = rw (beq-is (namesSymbol n) y h) q;
+            entry = rw (beq-is (namesEntry n) e k) w;
+          },
+        );
+      }
+
+  -- a refusal of each sort
+  of-deposit : (n : ℕ) (b : Bool) → fitting false false false n ≡ true → Says o ps (ofDeposit n b)
+  of-deposit n true t = places _ false false false t refl refl refl
+  of-deposit n false t = none-says
+
+  of-section : (n : ℕ) (s : Section) (b : Bool) → s ∈ o .sections → fitting true false false n ≡ true → Says o ps (ofSection n s b)
+  of-section n s true m t = places _ true false false t (s, m, refl) refl refl
+  of-section n s false m t = none-says
+
+  of-symbol : (n : ℕ) (s : Section) (y : Symbol) (b : Bool) → s ∈ o .sections → y ∈ o .symbols → fitting true true false n ≡ true → Says o ps (ofSymbol n s y b)
+  of-symbol n s y true m k t = places _ true true false t (s, m, refl) (y, k, refl) refl
+  of-symbol n s y false m k t = none-says
+
+  of-entry : (n e : ℕ) (b : Bool) → 1 ≤ e → e ≤ length ps → fitting false false true n ≡ true → Says o ps (ofEntry n e b)
+  of-entry n e true l h t = places _ false false true t refl refl (l, h)
+  of-entry n e false l h t = none-says
+
+  -- ---- 4 to 17
+
+  reloc-says : (s : Section) → s ∈ o .sections → Says o ps (relocRefusal s)
+  unfolding relocRefusal
+  reloc-says s m = of-section 4 s (untargeted (s .relocs)) m refl
+
+  licence-says : (s : Section) → s ∈ o .sections → Says o ps (licenceRefusal s)
+  unfolding licenceRefusal
+  licence-says s m = or-says (reloc-says s m) (go (parseLicense (s .bytes)))
+    where
+      go : (p : ParsedLicense) → Says o ps (ofNumber s (licenseNumber p))
+      go (ParsedLicense.License n) = none-says
+      go ParsedLicense.InvalidLicense = of-section 5 s true m refl
+      go ParsedLicense.MissingLicenseNullTerminator = of-section 6 s true m refl
+
+  version-says : (e : Endianness) (s : Section) → s ∈ o .sections → Says o ps (versionRefusal e s)
+  unfolding versionRefusal
+  version-says e s m = or-says (reloc-says s m) (go (parseVersion e (s .bytes)))
+    where
+      go : (p : ParsedVersion) → Says o ps (ofNumber s (versionNumber p))
+      go (ParsedVersion.Version v) = none-says
+      go ParsedVersion.InvalidKernelVersion = of-section 7 s true m refl
+
+  symbol-∈ : (s : Section) (y : Symbol) → y ∈ symbolsOf o s → y ∈ o .symbols
+  unfolding symbolsOf
+  symbol-∈ s y m = keep-∈ (λ z. liesIn (s .index) (z .section)) y (o .symbols) m .0
+
+  program-symbol-says : (s : Section) (y : Symbol) → s ∈ o .sections → y ∈ o .symbols → Says o ps (programSymbolRefusal s y)
+  unfolding programSymbolRefusal
+  program-symbol-says s y m k =
+      or-says (of-symbol 10 s y (passes (s .bytes) y || ltb (y .address) (s .address)) m k refl)
+      (of-symbol 15 s y (invalidProgramCode (y .size)) m k refl)
+
+  program-says : (s : Section) → s ∈ o .sections → Says o ps (programRefusal o s)
+  unfolding programRefusal programSymbols
+  program-says s m =
+      or-says (go (fromStr (s .name)))
+      (or-says (of-section 9 s (isEmpty (symbolsOf o s)) m refl)
+      (first-says (programSymbolRefusal s) (programSymbols o s)
+      (λ y k. program-symbol-says s y m (symbol-∈ s y (keep-∈ isProgram y (symbolsOf o s) k .0)))))
+    where
+      go : (p : ParsedProgramSection) → Says o ps (ofNumber s (sectionNumber p))
+      go (ParsedProgramSection.Section v) = none-says
+      go ParsedProgramSection.InvalidProgramSection = of-section 8 s true m refl
+
+  map-symbol-says : (s : Section) (y : Symbol) → s ∈ o .sections → y ∈ o .symbols → Says o ps (mapSymbolRefusal s y)
+  unfolding mapSymbolRefusal
+  map-symbol-says s y m k =
+      or-says (of-symbol 10 s y (passes (s .bytes) y) m k refl) (of-symbol 16 s y (invalidMapDefinition (y .size) (recordOf s y)) m k refl)
+
+  maps-say : (s : Section) → s ∈ o .sections → Says o ps (mapsRefusal o s)
+  unfolding mapsRefusal
+  maps-say s m =
+      or-says (of-section 9 s (isEmpty (symbolsOf o s)) m refl)
+      (first-says (mapSymbolRefusal s) (symbolsOf o s) (λ y k. map-symbol-says s y m (symbol-∈ s y k)))
+
+  defined-∈ : (s : Section) (y : Symbol) → y ∈ definedText o s → y ∈ o .symbols
+  unfolding definedText
+  defined-∈ s y m = symbol-∈ s y (keep-∈ (λ z. isText (z .kind) && z .definition) y (symbolsOf o s) m .0)
+
+  shared-says : (s : Section) (seen : List ℕ) (ys : List Symbol) → s ∈ o .sections → ((y : Symbol) → y ∈ ys → y ∈ o .symbols) → Says o ps (sharedRefusal s seen ys)
+  unfolding sharedRefusal
+  shared-says s seen [] m k = none-says
+  shared-says s seen (y ∷ ys) m k =
+      or-says (of-symbol 11 s y (isSome (find (eqb (y .address)) seen)) m (k y (inl refl)) refl)
+      (shared-says s (y .address ∷ seen) ys m (λ z n. k z (inr n)))
+
+  stop-says : (s : Section) (p : Stop) → s ∈ o .sections → ((y : Symbol) → p .met ≡ some y → y ∈ o .symbols) → Says o ps (stopRefusal s p)
+  unfolding stopRefusal
+  stop-says s p m k =
+      maybe-says (p .met) (ofSection 12 s true)
+      (λ y.
+      orElse (ofSymbol 13 s y (eqb (y .size) 0))
+      (orElse (ofSymbol 14 s y (ltb (length (s .bytes)) (p .at + y .size))) (ofSymbol 15 s y (invalidProgramCode (y .size)))))
+      (of-section 12 s true m refl)
+      (λ y e.
+      or-says (of-symbol 13 s y (eqb (y .size) 0) m (k y e) refl)
+      (or-says (of-symbol 14 s y (ltb (length (s .bytes)) (p .at + y .size)) m (k y e) refl)
+      (of-symbol 15 s y (invalidProgramCode (y .size)) m (k y e) refl)))
+
+  text-says : (s : Section) → s ∈ o .sections → Says o ps (textRefusal o s)
+  unfolding textRefusal walkOf
+  text-says s m =
+      or-says (shared-says s [] (definedText o s) m (defined-∈ s))
+      (first-says (stopRefusal s) (walkOf o s)
+      (λ p k. stop-says s p m (λ y e. defined-∈ s y (stop-∈ (length (s .bytes)) s (definedText o s) 0 p y k e))))
+
+  kind-says : (s : Section) → s ∈ o .sections → Says o ps (kindRefusal o s)
+  unfolding kindRefusal
+  kind-says s m = go (isKind Kind.Program (kindOf s)) (isKind Kind.Maps (kindOf s)) (isKind Kind.Text (kindOf s))
+    where
+      go : (p q t : Bool)
+          → Says o ps (cond p (programRefusal o s) (cond q (mapsRefusal o s) (cond t (textRefusal o s) (ofSection 17 s (isKind Kind.BtfMaps (kindOf s))))))
+      go true q t = program-says s m
+      go false true t = maps-say s m
+      go false false true = text-says s m
+      go false false false = of-section 17 s (isKind Kind.BtfMaps (kindOf s)) m refl
+
+  section-says : (s : Section) → s ∈ o .sections → Says o ps (sectionRefusal o s)
+  unfolding sectionRefusal
+  section-says s m = go (isKind Kind.BtfExt (kindOf s))
+    where
+      go : (b : Bool) → Says o ps (cond b none (orElse (relocRefusal s) (kindRefusal o s)))
+      go true = none-says
+      go false = or-says (reloc-says s m) (kind-says s m)
+
+  named-∈ : (name : List ℕ) (s : Section) → firstNamed name (o .sections) ≡ some s → s ∈ o .sections
+  unfolding firstNamed
+  named-∈ name s e = find-∈ (λ t. same name (t .name)) s (o .sections) e
+
+  object-says : Says o ps (objectRefusal o)
+  unfolding objectRefusal
+  object-says =
+      or-says (maybe-says (firstNamed (ascii "license") (o .sections)) none licenceRefusal none-says (λ s e. licence-says s (named-∈ (ascii "license") s e)))
+      (or-says (maybe-says (firstNamed (ascii "version") (o .sections)) none (versionRefusal (o .order)) none-says (λ s e. version-says (o .order) s (named-∈ (ascii "version") s e)))
+      (first-says (sectionRefusal o) (o .sections) section-says))
+
+  -- ---- 18 to 23: entry e, one of the list
+
+  module _ (e : ℕ) (low : 1 ≤ e) (high : e ≤ length ps) where
+    place-says : (ms : List Map) (y : Symbol) → Says o ps (placeRefusal ms e y)
+    unfolding placeRefusal
+    place-says ms y =
+        maybe-says (find (λ m. liesIn (m .section) (y .section)) ms) (ofEntry 22 e true) (λ m. ofEntry 23 e (passes (m .own) y))
+        (of-entry 22 e true low high refl)
+        (λ m q. of-entry 23 e (passes (m .own) y) low high refl)
+
+    bearer-says : (ms : List Map) (p : Patch) (ys : List Symbol) → Says o ps (bearerRefusal ms e p ys)
+    unfolding bearerRefusal
+    bearer-says ms p [] = of-entry 20 e (eqb (p .mark) 1) low high refl
+    bearer-says ms p (y ∷ []) = or-says (of-entry 21 e (not (eqb (length (p .bytes)) (y .size))) low high refl) (place-says ms y)
+    bearer-says ms p (y ∷ z ∷ ys) = of-entry 19 e true low high refl
+
+    entry-says : (ms : List Map) (p : Patch) → Says o ps (entryRefusal o ms e p)
+    unfolding entryRefusal
+    entry-says ms p = or-says (of-entry 18 e (not (p .inside) || ltb 1 (p .mark)) low high refl) (bearer-says ms p (bearers o (p .name)))
+
+  patch-says : (ms : List Map) (e : ℕ) (qs : List Patch) → 1 ≤ e → e + length qs ≤ suc (length ps) → Says o ps (patchRefusal o ms e qs)
+  unfolding patchRefusal
+  patch-says ms e [] l h = none-says
+  patch-says ms e (q ∷ qs) l h = or-says (entry-says e l (omega arith) ms q) (patch-says ms (suc e) qs (omega arith) (omega arith))
+
+  pub refusal-says : Says o ps (refusalOf o ps)
+  unfolding refusalOf
+  refusal-says = or-says object-says (patch-says (catalogueOf o .maps) 1 ps (omega arith) (omega arith))
+
+-- ---- 1 to 3
+
+pub deposit-says : (d : List ℕ) (ps : List Patch) → Says (objectOf d) ps (depositRefusal d)
+unfolding depositRefusal
+deposit-says d ps =
+    let o = objectOf d in
+    or-says o ps (of-deposit o ps 1 (not (frameOk d)) refl)
+    (or-says o ps (of-deposit o ps 2 (not (streamOk d)) refl) (of-deposit o ps 3 (hasBtf (objectOf d)) refl))
