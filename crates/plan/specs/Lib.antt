@@ -5,3 +5,6 @@ pub mod Sorted
 pub mod Shared
 pub mod ByNumber
 pub mod Walk
+pub mod SectionsPrograms
+pub mod FunctionsMaps
+pub mod Relocations
