@@ -1,0 +1,2 @@
+-- The object that a deposit states, read by record numbers.
+pub mod View

@@ -1,0 +1,48 @@
+// What a deposit's records stand for: the kind of a section, and which symbols are programs or defined text.
+ghost use mathlib.Core.Path.{_≡_};
+ghost use Prim.Native.Nat.{_^_, _<_, _≤_};
+ghost use Rattle.model.specs.SectionKind.{kindOf};
+ghost use Rattle.records.specs.Records.{namesAt, dataAt};
+ghost use Rattle.view.specs.View.{sectionFrom, namedText, definedRecord};
+use model::EbpfSectionKind;
+use model::Head;
+use model::SectionRecord;
+use model::SymbolRecord;
+use stream::size;
+
+// Where the names begin.
+pub fn names_at(h: Head) -> usize
+    ensures { λ r. ⌜ (r ≡ namesAt h) × (r < 2 ^ 42) ⌝ }
+{
+    32 + 48 * size(h.sections) + 40 * size(h.symbols) + 16 * size(h.relocations)
+}
+
+// Where the data begin.
+pub fn bytes_at(h: Head) -> usize
+    ensures { λ r. ⌜ (r ≡ dataAt h) × (r < 2 ^ 43) ⌝ }
+{
+    names_at(h) + size(h.names)
+}
+
+pub fn kind_of(d: &[u8], gap: usize, h: Head, s: SectionRecord) -> EbpfSectionKind
+    requires { ⌜ gap ≤ 4 ⌝ }
+    ensures { λ r. ⌜ r ≡ kindOf (sectionFrom (now (d .entry)) gap h s) ⌝ }
+{
+    let at = names_at(h) + size(s.name.at);
+    let n = size(s.name.length);
+    let kind = section_kind::from_name(d, gap, at, n);
+    section_kind::or_program(kind, s.mark == 1, s.size)
+}
+
+// A text symbol with a name.
+pub fn is_program(y: SymbolRecord) -> bool
+    ensures { λ r. ⌜ r ≡ namedText y ⌝ }
+{
+    y.kind == 1 && y.name.length > 0
+}
+
+pub fn is_defined_text(y: SymbolRecord) -> bool
+    ensures { λ r. ⌜ r ≡ definedRecord y ⌝ }
+{
+    y.kind == 1 && y.definition == 1
+}
