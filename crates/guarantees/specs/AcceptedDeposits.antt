@@ -21,9 +21,10 @@ use Rattle.model.specs.Refusals.{noSection, noSymbol}
 use Rattle.model.specs.Patching.{refused, accepted, load}
 use Rattle.model.specs.Deposit.{frameOk, streamIn, streamOf, headOf, Stream, partsFrom, partsOf, all, allZero, headOk, lengthOk, sectionOk, symbolOk, relocationOk, risingFrom, recordsOk, streamRules, streamOk, sectionOf, symbolOf, statedBy, objectOf, hasBtf, ofDeposit, depositRefusal, loadDeposit}
 use Rattle.guarantees.specs.OptionsAndLists.{orElse-none, refuse-none, both-true, map-∈}
-use Rattle.guarantees.specs.InstructionBytes.{all-drop, all-take}
+use Rattle.encoding.specs.Code.{all-drop, all-take}
 use Rattle.guarantees.specs.AcceptedObjects.{Rising, Stated}
-use Rattle.guarantees.specs.WordsOfDemand3.{AllBytes, after}
+use Rattle.model.specs.Bytes.{AllBytes}
+use Rattle.guarantees.specs.WordsOfDemand3.{after}
 use Rattle.guarantees.specs.SecondHalf.{second-half}
 
 -- ---- what number 2 makes sure of

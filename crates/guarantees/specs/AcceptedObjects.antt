@@ -21,7 +21,7 @@ use Rattle.model.specs.Contents.{functionAt, programFunction, textFunction, fun
 use Rattle.model.specs.Refusals.{ofSection, ofSymbol, ofNumber, relocRefusal, licenceRefusal, versionRefusal, passes, isEmpty, programSymbolRefusal, programRefusal, sharedRefusal, stopRefusal, textRefusal, kindRefusal, sectionRefusal, objectRefusal, refusalOf}
 use Rattle.guarantees.specs.OptionsAndLists.{orElse-none, refuse-none, both-false, firstIn-none, map-∈, each-∈}
 use Rattle.guarantees.specs.SecondHalf.{none-parts}
-use Rattle.guarantees.specs.WordsOfDemand3.{AllBytes}
+use Rattle.model.specs.Bytes.{AllBytes}
 
 -- 'Section .. indexes are at least 1 and rise strictly'
 abbrev pub Rising : ℕ → List Section → Type 0

@@ -20,7 +20,8 @@ use Rattle.model.specs.Deposit.{objectOf, loadDeposit}
 use Rattle.model.specs.PatchList.{patchesOf}
 use Rattle.model.specs.Lent.{Room, loadOf}
 use Rattle.model.specs.ReadBack.{readBack}
-use Rattle.guarantees.specs.WordsOfDemand3.{AllBytes, Fair, FirstHalf, given, lastGiven, byteAfter, mapAfter, NamedWith, instructionAfter, after}
+use Rattle.model.specs.Bytes.{AllBytes}
+use Rattle.guarantees.specs.WordsOfDemand3.{Fair, FirstHalf, given, lastGiven, byteAfter, mapAfter, NamedWith, instructionAfter, after}
 use Rattle.guarantees.specs.FirstHalf.{first-half}
 use Rattle.guarantees.specs.SecondHalf.{sized, finish-is, accepted-is, passed-over, none-reaches, last-reaches, bytes-after, named-becomes, unnamed-stays}
 use Rattle.guarantees.specs.AcceptedDeposits.{deposit-stated, deposit-accepted, deposit-passed, deposit-after}

@@ -25,7 +25,7 @@ use Rattle.model.specs.Patching.{patched, finish, accepted, verdict, load}
 use Rattle.model.specs.Lent.{functionCode}
 use Rattle.model.specs.ReadBack.{kindFrom}
 use Rattle.guarantees.specs.WordsOfDemand3.{Fair, Whole, Stands, functionsIn, Joined, Agree, FirstHalf}
-use Rattle.guarantees.specs.InstructionBytes.{part-is}
+use Rattle.encoding.specs.Code.{part-is}
 use Rattle.guarantees.specs.ReadBackImage.{kind-back}
 use Rattle.guarantees.specs.AcceptedObjects.{Stated, Accepted, one-index, Fits, program-accepted, functions-section}
 use Rattle.guarantees.specs.SecondHalf.{accepted-is}

@@ -28,8 +28,9 @@ use Rattle.model.specs.Lent.{summaryOf, Lent, imageOf, Room, fitsIn, filled, ze
 use Rattle.model.specs.ReadBack.{readBack}
 use Rattle.guarantees.specs.OptionsAndLists.{map-∈, each-∈, both-true}
 use Rattle.guarantees.specs.TableLaws.{keep-∈, table-∈}
-use Rattle.guarantees.specs.WordsOfDemand3.{AllBytes, instructionAfter, functionAfter, mapAfter, after}
-use Rattle.guarantees.specs.InstructionBytes.{all-drop, all-take}
+use Rattle.model.specs.Bytes.{AllBytes}
+use Rattle.guarantees.specs.WordsOfDemand3.{instructionAfter, functionAfter, mapAfter, after}
+use Rattle.encoding.specs.Code.{all-drop, all-take}
 use Rattle.guarantees.specs.ReadBackImage.{Within, Ranged, Numbered, Sound, read-back-filled}
 use Rattle.guarantees.specs.FirstHalf.{maps-∈}
 use Rattle.guarantees.specs.AcceptedDeposits.{deposit-stated, symbols-from-1, deposit-passed, deposit-after}

@@ -8,7 +8,6 @@ pub mod ProvisosNeeded
 pub mod NotVacuous
 pub mod OptionsAndLists
 pub mod TableLaws
-pub mod InstructionBytes
 pub mod SecondHalf
 pub mod AcceptedObjects
 pub mod TextJoined

@@ -13,7 +13,8 @@ use Rattle.model.specs.SectionKind.{isKind, kindOf}
 use Rattle.model.specs.Symbols.{symbolsOf}
 use Rattle.guarantees.specs.OptionsAndLists.{true-not-false, both-true, both-false}
 use Rattle.guarantees.specs.TableLaws.{same-refl}
-use Rattle.guarantees.specs.WordsOfDemand3.{AllBytes, Fair}
+use Rattle.model.specs.Bytes.{AllBytes}
+use Rattle.guarantees.specs.WordsOfDemand3.{Fair}
 use Rattle.guarantees.specs.AcceptedObjects.{Rising, Stated}
 
 -- a section of that name is among them

@@ -24,8 +24,9 @@ use Rattle.model.specs.Refusals.{stopRefusal}
 use Rattle.guarantees.specs.OptionsAndLists.{not-some, orElse-none}
 use Rattle.guarantees.specs.TableLaws.{before-second, keep-table, table-sorted, Sorted}
 use Rattle.model.specs.Lent.{functionCode}
-use Rattle.guarantees.specs.WordsOfDemand3.{AllBytes, functionsIn, Rise, Follow}
-use Rattle.guarantees.specs.InstructionBytes.{part-is}
+use Rattle.model.specs.Bytes.{AllBytes}
+use Rattle.guarantees.specs.WordsOfDemand3.{functionsIn, Rise, Follow}
+use Rattle.encoding.specs.Code.{part-is}
 use Rattle.guarantees.specs.AcceptedObjects.{Rising, Stated, Accepted, rising-above, text-accepted, Met, stop-accepted, functions-section}
 
 -- functions that fill the data d from an offset on, from an address on

@@ -22,11 +22,6 @@ use Rattle.model.specs.Contents.{programFunction}
 use Rattle.model.specs.Refusals.{bearers}
 use Rattle.model.specs.Lent.{functionCode}
 
--- a deposit is a list of bytes
-abbrev pub AllBytes : List ℕ → Type 0
-AllBytes [] = Unit {0}
-AllBytes (b ∷ d) = (b < 256) × AllBytes d
-
 -- ---- the first half
 
 -- 'with no section name used twice in either and no symbol of a `maps` section bearing a section's name'

@@ -1,2 +1,3 @@
 -- The object that a deposit states, read by record numbers.
 pub mod View
+pub mod Checked

@@ -6,9 +6,16 @@ ghost use Rattle.records.specs.Records.{namesAt, dataAt};
 ghost use Rattle.view.specs.View.{sectionFrom, namedText, definedRecord};
 use model::EbpfSectionKind;
 use model::Head;
+use model::Refusal;
 use model::SectionRecord;
 use model::SymbolRecord;
 use stream::size;
+
+// What a check of a part of the object finds: nothing, or why the deposit goes back.
+pub enum Checked {
+    Fine,
+    Refused(Refusal),
+}
 
 // Where the names begin.
 pub fn names_at(h: Head) -> usize

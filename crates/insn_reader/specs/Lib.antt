@@ -1,0 +1,2 @@
+-- What a reader has left to give.
+pub mod Reading

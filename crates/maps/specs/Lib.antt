@@ -1,0 +1,2 @@
+-- Laws of a record's bytes.
+pub mod Record
