@@ -60,6 +60,10 @@ upTo-rises (suc n) = rises-snoc 0 n (upTo n) (upTo-rises n) (omega arith) (upTo-
 
 -- ---- the symbols of a section
 
+-- the raw number of a symbol's section, 0xFFFFFFFF where it has none
+abbrev pub rawSection : Symbol → ℕ
+rawSection y = maybe (y .section) 4294967295 (λ k. k .0)
+
 abbrev pub isDefinedText : Symbol → Bool
 isDefinedText y = isText (y .kind) && y .definition
 

@@ -25,7 +25,7 @@ use Rattle.orders.specs.Sort.{pick, insert, sorted}
 use Rattle.plan.specs.Numbers.{each-tab}
 use Rattle.plan.specs.Tables.{table-map, table-on}
 use Rattle.plan.specs.Shared.{byAddress}
-use Rattle.plan.specs.ByNumber.{members, programMembers, textMembers, textOrder, numberAt, symbols-by, programs-by, isDefinedText}
+use Rattle.plan.specs.ByNumber.{members, programMembers, textMembers, textOrder, numberAt, symbols-by, programs-by, rawSection}
 use Rattle.plan.specs.Walk.{numberIn, walkNumbers, textFunctionOf, functions-met}
 use Rattle.plan.specs.SectionsPrograms.{rows-map, rows-ext, All, map-on, all-keep, all-kept, whole, Rising, home, home-is, members-home, programs-home}
 
@@ -126,11 +126,7 @@ module _ (e : Endianness) (sec : ℕ → Section) (S : ℕ) (at : ℕ → Symbol
   abbrev pub functionIn : ℕ → Function
   functionIn j = functionOf (home e sec S at Y j) j
 
-  -- the raw number of a symbol's section
-  abbrev pub sectionNumber : ℕ → ℕ
-  sectionNumber j = maybe (at j .section) 4294967295 (λ k. k .0)
-
-  lies-number : (i j : ℕ) → liesIn (sec i .index) (at j .section) ≡ true → sec i .index .0 ≡ sectionNumber j
+  lies-number : (i j : ℕ) → liesIn (sec i .index) (at j .section) ≡ true → sec i .index .0 ≡ rawSection (at j)
   lies-number i j h = go (at j .section) h
     where
       go : (o : Option SectionIndex) → liesIn (sec i .index) o ≡ true → sec i .index .0 ≡ maybe o 4294967295 (λ k. k .0)
@@ -163,7 +159,7 @@ module _ (e : Endianness) (sec : ℕ → Section) (S : ℕ) (at : ℕ → Symbol
   as-listed i [] a = tt
   as-listed i (j ∷ js) a = (record { in-section = i; held = a .0 }, as-listed i js (a .1))
 
-  key-is : (j : ℕ) → Listed j → functionKey (functionIn j) ≡ sectionNumber j ∷ at j .address ∷ []
+  key-is : (j : ℕ) → Listed j → functionKey (functionIn j) ≡ rawSection (at j) ∷ at j .address ∷ []
   key-is j h =
       let i = h .in-section in
       let q : home e sec S at Y j ≡ i = h .held .home-of in
@@ -189,12 +185,12 @@ module _ (e : Endianness) (sec : ℕ → Section) (S : ℕ) (at : ℕ → Symbol
       go false false q = refl
 
   pub functions-are : Rising e sec S at Y
-      → catalogueOf (whole e sec S at Y) .functions ≡ map functionIn (tableOf (λ j. sectionNumber j ∷ at j .address ∷ []) (rows functionsIn S))
+      → catalogueOf (whole e sec S at Y) .functions ≡ map functionIn (tableOf (λ j. rawSection (at j) ∷ at j .address ∷ []) (rows functionsIn S))
   unfolding catalogueOf
   functions-are rise =
       ap (tableOf functionKey) (each-tab (functionsOf (whole e sec S at Y)) sec S ∙ rows-ext _ _ S (functions-in rise) ∙ rows-map functionIn functionsIn S)
       ∙ table-map functionKey functionIn (rows functionsIn S)
-      ∙ ap (map functionIn) (table-on (λ j. functionKey (functionIn j)) (λ j. sectionNumber j ∷ at j .address ∷ []) (rows functionsIn S) (λ j m. key-is j (all-∈ Listed j (rows functionsIn S) all m)))
+      ∙ ap (map functionIn) (table-on (λ j. functionKey (functionIn j)) (λ j. rawSection (at j) ∷ at j .address ∷ []) (rows functionsIn S) (λ j m. key-is j (all-∈ Listed j (rows functionsIn S) all m)))
     where
       all : All Listed (rows functionsIn S)
       all = all-rows Listed functionsIn S (λ i l. as-listed i (functionsIn i) (listed-in rise i l))

@@ -8,3 +8,5 @@ pub mod Walk
 pub mod SectionsPrograms
 pub mod FunctionsMaps
 pub mod Relocations
+pub mod Groups
+pub mod SortedGroups
