@@ -2,7 +2,8 @@
 ghost use mathlib.Core.Path.{_≡_};
 ghost use Prim.Native.Nat.{_+_, _*_, _^_, _<_, _≤_};
 ghost use lib.ListN.{length};
-ghost use Rattle.records.specs.Records.{headAt, extentAt, symbolsAt, relocationsAt, sectionAt, symbolAt, relocationAt, cursor, stepOf};
+ghost use Rattle.model.specs.Deposit.{endOf};
+ghost use Rattle.records.specs.Records.{headAt, extentAt, symbolsAt, relocationsAt, namesAt, dataAt, sectionAt, symbolAt, relocationAt, cursor, stepOf};
 use model::Extent;
 use model::Head;
 use model::RelocationRecord;
@@ -56,16 +57,35 @@ pub fn section(d: &[u8], gap: usize, i: u32) -> SectionRecord
     }
 }
 
-fn symbols_at(h: Head) -> usize
+// Where the tables begin, and where the stream ends.
+pub fn symbols_at(h: Head) -> usize
     ensures { λ r. ⌜ (r ≡ symbolsAt h) × (r < 2 ^ 40) ⌝ }
 {
     32 + 48 * size(h.sections)
 }
 
-fn relocations_at(h: Head) -> usize
+pub fn relocations_at(h: Head) -> usize
     ensures { λ r. ⌜ (r ≡ relocationsAt h) × (r < 2 ^ 41) ⌝ }
 {
     symbols_at(h) + 40 * size(h.symbols)
+}
+
+pub fn names_at(h: Head) -> usize
+    ensures { λ r. ⌜ (r ≡ namesAt h) × (r < 2 ^ 42) ⌝ }
+{
+    relocations_at(h) + 16 * size(h.relocations)
+}
+
+pub fn data_at(h: Head) -> usize
+    ensures { λ r. ⌜ (r ≡ dataAt h) × (r < 2 ^ 43) ⌝ }
+{
+    names_at(h) + size(h.names)
+}
+
+pub fn end_of(h: Head) -> usize
+    ensures { λ r. ⌜ (r ≡ endOf h) × (r < 2 ^ 44) ⌝ }
+{
+    data_at(h) + size(h.bytes)
 }
 
 // Symbol record i, counted from 0.

@@ -29,6 +29,12 @@ stream-in (suc m) d e =
     let g : suc m * 508 ≡ 508 + m * 508 = omega (arith, suc-mul m 508) in
     ap₂ _++_ f (stream-in m (drop 512 d) l ∙ next-block d (m * 508)) ∙ sym (bytes-append d 4 0 508 (m * 508)) ∙ ap (bytesAt d 4 0) (sym g)
 
+-- what is left of the last block, in which a stream ends
+pub rest-block : (m end : ℕ) → end ≤ m * 508 → m * 508 < end + 508 → (end % 508 + (m * 508 - end) ≤ 508) × (place 4 end + (m * 508 - end) ≤ m * 512)
+rest-block m end h g =
+    let e : end / 508 * 4 ≤ m * 4 = omega arith in
+    (omega arith, omega arith)
+
 module _ (d : List ℕ) (whole : length d % 512 ≡ 0) where
   pub stream-bytes : streamOf d ≡ bytesAt d 4 0 (length d / 512 * 508)
   unfolding streamOf

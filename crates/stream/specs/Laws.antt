@@ -16,6 +16,12 @@ place-add gap p n =
     let h : p / 508 ≤ (p + n) / 508 = omega arith in
     omega (arith, mul-le-mul-right gap h)
 
+pub place-mono : (gap p q : ℕ) → p ≤ q → place gap p ≤ place gap q
+place-mono gap p q h =
+    let e : p + (q - p) ≡ q = omega arith in
+    let l : place gap p + (q - p) ≤ place gap q = rw e at (place-add gap p (q - p)) in
+    omega arith
+
 -- within a block they rise by as much
 pub place-block : (gap p k : ℕ) → p % 508 + k < 508 → place gap (p + k) ≡ place gap p + k
 place-block gap p k h = let e : (p + k) / 508 ≡ p / 508 = omega arith in rw e (omega arith)

@@ -2,7 +2,7 @@
 use mathlib.Core.Path.{_≡_, refl, sym, ap, _∙_}
 use mathlib.Core.Bool.{Bool, true, false, cond}
 use mathlib.Core.List.{List, _++_}
-use Prim.Native.Nat.{ℕ, suc, _+_, _-_, _*_, _/_, _%_, _^_, _<_, _≤_}
+use Prim.Native.Nat.{ℕ, suc, _+_, _-_, _*_, _/_, _%_, _^_, _<_, _≤_, min}
 use native.Mathlib.Nat.{suc-mul}
 use native.Mathlib.Omega.{arith}
 use borrow.Author.Tests.{ltb-true, ltb-false}
@@ -58,6 +58,32 @@ run-piece d gap p n m h g k =
     let e : n ≡ m + (n - m) = omega arith in
     let q : place gap p + m ≤ length d = omega (arith, place-add gap p n) in
     ap (bytesAt d gap p) e ∙ bytes-append d gap p m (n - m) ∙ ap (λ (s : List ℕ). s ++ bytesAt d gap (p + m) (n - m)) (bytes-block d gap p m (omega arith) q)
+
+-- ---- a walk block by block
+
+-- one turn of a walk that has n bytes to go at byte q: it takes m, those that are left in the block or all of them
+pub record Turn (d : List ℕ) (gap q n : ℕ) (r : Run) (m : ℕ) : Type 0 where
+  pub some : 0 < m
+  pub most : m ≤ n
+  pub fits : m ≤ r .room
+  pub block : m ≤ 508
+  pub inside : r .at + m ≤ length d
+  pub piece : bytesAt d gap q n ≡ part d (r .at) m ++ bytesAt d gap (q + m) (n - m)
+  pub moved : skipped gap m r ≡ runAt gap (q + m)
+
+pub turn : (d : List ℕ) (gap q n : ℕ) (r : Run) (m : ℕ) → r ≡ runAt gap q → 0 < n → place gap (q + n) ≤ length d → m ≡ min n (r .room) → Turn d gap q n r m
+turn d gap q n r m e h g k =
+    let at : r .at ≡ place gap q = ap (λ (s : Run). s .at) e ∙ run-at gap q in
+    let room : r .room ≡ 508 - q % 508 = ap (λ (s : Run). s .room) e ∙ run-room gap q in
+    record {
+      some = omega arith;
+      most = omega arith;
+      fits = omega arith;
+      block = omega arith;
+      inside = omega (arith, place-add gap q n);
+      piece = rw at (run-piece d gap q n m (omega arith) (omega arith) g);
+      moved = rw e (run-skipped gap q m (omega arith));
+    }
 
 -- ---- a walk byte by byte, from p on
 

@@ -1,0 +1,74 @@
+// The call that opens a deposit, or says why it goes back: numbers 1 to 3.
+ghost use mathlib.Core.Path.{_≡_};
+ghost use Rattle.deposit.specs.Open.{goesBack, checkedStream, openedOf};
+use frame::frame_ok;
+use model::Head;
+use model::Refusal;
+use model::SectionIndex;
+use model::SymbolIndex;
+use records::end_of;
+use records::head;
+use rules::Checked;
+use rules::check_sections;
+use rules::head_ok;
+use rules::relocations_ok;
+use rules::rest_ok;
+use rules::symbols_ok;
+
+// The head of a deposit that passes, or why it goes back.
+pub enum Opened {
+    Head(Head),
+    Refused(Refusal),
+}
+
+fn check_stream(d: &[u8], h: Head) -> Checked
+    ensures { λ r. ⌜ r ≡ checkedStream (now (d .entry)) h ⌝ }
+{
+    if !head_ok(h) {
+        return Checked::Broken;
+    }
+    // No block is missing, and none is left over.
+    let end = end_of(h);
+    let len = d.len() / 512 * 508;
+    if end > len {
+        return Checked::Broken;
+    }
+    if len >= end + 508 {
+        return Checked::Broken;
+    }
+    if !rest_ok(d, h) {
+        return Checked::Broken;
+    }
+    if !symbols_ok(d, h) {
+        return Checked::Broken;
+    }
+    if !relocations_ok(d, h) {
+        return Checked::Broken;
+    }
+    check_sections(d, h)
+}
+
+fn refused(number: u32) -> Opened
+    ensures { λ r. ⌜ r ≡ Opened.Refused (goesBack number) ⌝ }
+{
+    Opened::Refused(Refusal {
+        number,
+        section: SectionIndex(0),
+        symbol: SymbolIndex(0),
+        entry: 0,
+    })
+}
+
+pub fn open(d: &[u8]) -> Opened
+    ensures { λ r. ⌜ r ≡ openedOf (now (d .entry)) ⌝ }
+{
+    if !frame_ok(d) {
+        return refused(1);
+    }
+    let h = head(d, 4);
+    match check_stream(d, h) {
+        Checked::Broken => refused(2),
+        Checked::Btf => refused(3),
+        Checked::Fine => Opened::Head(h),
+    }
+}
