@@ -89,13 +89,13 @@ not-less x y = go (ltb y x) refl
     go true e = let q : y < x = ltb-true y x e in sym (lt-leb x y q)
     go false e = let q : x ≤ y = ltb-false y x e in sym (le-leb x y q)
 
+abbrev pub bySection : (ℕ → Symbol) → ℕ → ℕ → Bool
+bySection at = byKey (λ j. rawSection (at j) ∷ [])
+
+abbrev pub byPlace : (ℕ → Symbol) → ℕ → ℕ → Bool
+byPlace at = byKey (λ j. rawSection (at j) ∷ at j .address ∷ [])
+
 module _ (e : Endianness) (ss : List Section) (at : ℕ → Symbol) (Y : ℕ) where
-  abbrev pub bySection : ℕ → ℕ → Bool
-  bySection = byKey (λ j. rawSection (at j) ∷ [])
-
-  abbrev pub byPlace : ℕ → ℕ → Bool
-  byPlace = byKey (λ j. rawSection (at j) ∷ at j .address ∷ [])
-
   lies-raw : (i : SectionIndex) (o : Option SectionIndex) → (i .0 ≡ 4294967295 → ⊥) → liesIn i o ≡ eqb (i .0) (maybe o 4294967295 (λ k. k .0))
   lies-raw i none h = sym (ne-eqb (i .0) 4294967295 h)
   lies-raw i (some k) h = refl
@@ -105,7 +105,7 @@ module _ (e : Endianness) (ss : List Section) (at : ℕ → Symbol) (Y : ℕ) wh
   unfolding members
   members-raw s h = keep-ext _ _ (upTo Y) (λ j. sym (lies-raw (s .index) (at j .section) h))
 
-  same-section : (k i j : ℕ) → eqb k (rawSection (at i)) ≡ true → eqb k (rawSection (at j)) ≡ true → bySection i j ≡ true
+  same-section : (k i j : ℕ) → eqb k (rawSection (at i)) ≡ true → eqb k (rawSection (at j)) ≡ true → bySection at i j ≡ true
   same-section k i j p q =
       let u : k ≡ rawSection (at i) = eqb-true _ _ p in
       let v : k ≡ rawSection (at j) = eqb-true _ _ q in
@@ -114,10 +114,10 @@ module _ (e : Endianness) (ss : List Section) (at : ℕ → Symbol) (Y : ℕ) wh
 
   -- a group of the symbols sorted by section: those of one section, by index
   pub members-group : (s : Section) → (s .index .0 ≡ 4294967295 → ⊥)
-      → keep (λ j. eqb (s .index .0) (rawSection (at j))) (sorted bySection (upTo Y)) ≡ members e ss at Y s
-  members-group s h = keep-sorted bySection (λ j. eqb (s .index .0) (rawSection (at j))) (same-section (s .index .0)) (upTo Y) ∙ members-raw s h
+      → keep (λ j. eqb (s .index .0) (rawSection (at j))) (sorted (bySection at) (upTo Y)) ≡ members e ss at Y s
+  members-group s h = keep-sorted (bySection at) (λ j. eqb (s .index .0) (rawSection (at j))) (same-section (s .index .0)) (upTo Y) ∙ members-raw s h
 
-  agree-place : (k i j : ℕ) → eqb k (rawSection (at i)) ≡ true → eqb k (rawSection (at j)) ≡ true → byPlace i j ≡ byAddress (λ n. at n .address) i j
+  agree-place : (k i j : ℕ) → eqb k (rawSection (at i)) ≡ true → eqb k (rawSection (at j)) ≡ true → byPlace at i j ≡ byAddress (λ n. at n .address) i j
   agree-place k i j p q =
       let u : k ≡ rawSection (at i) = eqb-true _ _ p in
       let v : k ≡ rawSection (at j) = eqb-true _ _ q in
@@ -127,15 +127,15 @@ module _ (e : Endianness) (ss : List Section) (at : ℕ → Symbol) (Y : ℕ) wh
 
   -- a group of the symbols sorted by section and address: of one section's, the defined text in order of address
   pub text-group : (s : Section) → (s .index .0 ≡ 4294967295 → ⊥)
-      → keep (λ j. isDefinedText (at j)) (keep (λ j. eqb (s .index .0) (rawSection (at j))) (sorted byPlace (upTo Y))) ≡ textOrder e ss at Y s
+      → keep (λ j. isDefinedText (at j)) (keep (λ j. eqb (s .index .0) (rawSection (at j))) (sorted (byPlace at) (upTo Y))) ≡ textOrder e ss at Y s
   unfolding textOrder textMembers
   text-group s h =
       let p : ℕ → Bool = λ j. eqb (s .index .0) (rawSection (at j)) in
       let t : ℕ → Bool = λ j. isDefinedText (at j) in
       let o = key-order (λ j. rawSection (at j) ∷ at j .address ∷ []) in
       let m = keep p (upTo Y) in
-      ap (keep t) (keep-of-sorted byPlace o p (upTo Y))
-      ∙ keep-of-sorted byPlace o t m
-      ∙ sorted-on (λ j. p j ≡ true) byPlace (byAddress (λ n. at n .address)) (λ a b u v. agree-place (s .index .0) a b u v) (keep t m)
+      ap (keep t) (keep-of-sorted (byPlace at) o p (upTo Y))
+      ∙ keep-of-sorted (byPlace at) o t m
+      ∙ sorted-on (λ j. p j ≡ true) (byPlace at) (byAddress (λ n. at n .address)) (λ a b u v. agree-place (s .index .0) a b u v) (keep t m)
       (all-kept (λ j. p j ≡ true) t m (all-keep (λ j. p j ≡ true) p (upTo Y) (λ j u. u)))
       ∙ ap (λ l. sorted (byAddress (λ n. at n .address)) (keep t l)) (members-raw s h)

@@ -1,0 +1,54 @@
+-- Where a walk over sorted symbol numbers stops: before the first that is not below a section's number, and behind the last that has it.
+use mathlib.Core.Path.{_≡_, refl, sym, ap, _∙_}
+use mathlib.Core.Bool.{Bool, true, false, cond}
+use mathlib.Core.List.{List, [], _∷_, _++_}
+use mathlib.Core.Option.{Option, none, some}
+use Prim.Native.Nat.{ℕ, _+_, _<_, _≤_}
+use native.Mathlib.Omega.{arith}
+use lib.Dec.{eqb}
+use borrow.Author.Tests.{eqb-true}
+use lib.ListN.{length, getD}
+use lib.Seq.{slice}
+use Rattle.lists.specs.Slice.{slice-more, slice-none}
+use Rattle.model.specs.declared.Head.{Head}
+use Rattle.model.specs.declared.SectionIndex.{SectionIndex}
+use Rattle.model.specs.declared.SymbolRecord.{SymbolRecord}
+use Rattle.model.specs.Bytes.{maybe}
+use Rattle.model.specs.Deposit.{unlessNone}
+use Rattle.records.specs.Records.{symbolAt}
+use Rattle.plan.specs.SectionsPrograms.{All}
+use Rattle.plan.specs.FunctionsMaps.{all-append}
+use Rattle.plan.specs.ByNumber.{rawSection}
+use Rattle.view.specs.View.{symbolFrom, symbolIn}
+
+-- the number of a symbol's section as its record has it
+pub raw-is : (d : List ℕ) (gap : ℕ) (h : Head) (r : SymbolRecord) → rawSection (symbolFrom d gap h r) ≡ r .section .0
+unfolding symbolFrom
+raw-is d gap h r = go (eqb (r .section .0) 4294967295) refl
+  where
+    go : (b : Bool) → eqb (r .section .0) 4294967295 ≡ b → maybe (cond b none (some (r .section))) 4294967295 (λ (k : SectionIndex). k .0) ≡ r .section .0
+    go true e = sym (eqb-true (r .section .0) 4294967295 e)
+    go false e = refl
+
+module _ (d : List ℕ) (gap : ℕ) (h : Head) (l : List ℕ) (from k : ℕ) where
+  abbrev pub raw : ℕ → ℕ
+  raw j = symbolAt d gap h j .section .0
+
+  -- those from `from` on are below k, up to r
+  pub record Start (r : ℕ) : Type 0 where
+    pub after : from ≤ r
+    pub within : r ≤ length l
+    pub below : All (λ j. raw j < k) (slice from r l)
+    pub stops : r < length l → k ≤ raw (getD l r 0)
+
+  pub record End (r : ℕ) : Type 0 where
+    pub after : from ≤ r
+    pub within : r ≤ length l
+    pub equal : All (λ j. raw j ≡ k) (slice from r l)
+    pub stops : r < length l → raw (getD l r 0) ≡ k → ⊥
+
+  pub all-more : (P : ℕ → Type 0) (i : ℕ) → from ≤ i → i < length l → All P (slice from i l) → P (getD l i 0) → All P (slice from (i + 1) l)
+  all-more P i h₁ h₂ a p = rw (slice-more from i l 0 h₁ h₂) (all-append P (slice from i l) (getD l i 0 ∷ []) a (p, tt))
+
+  pub all-none : (P : ℕ → Type 0) → All P (slice from from l)
+  all-none P = rw (slice-none from from l (omega arith)) tt
