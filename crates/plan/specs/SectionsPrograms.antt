@@ -93,7 +93,7 @@ module _ (e : Endianness) (sec : ℕ → Section) (S : ℕ) (at : ℕ → Symbol
       go true h = refl
       go false h = h
 
-  none-up : (p : ℕ → Bool) (n : ℕ) → ((i : ℕ) → i < n → p i ≡ false) → find p (upTo n) ≡ none
+  pub none-up : (p : ℕ → Bool) (n : ℕ) → ((i : ℕ) → i < n → p i ≡ false) → find p (upTo n) ≡ none
   unfolding tab find firstIn
   none-up p zero h = refl
   none-up p (suc n) h = find-append p (upTo n) (n ∷ []) ∙ rw (none-up p n (λ i l. h i (omega arith)), h n (omega arith))

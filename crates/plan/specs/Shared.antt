@@ -27,7 +27,7 @@ earlier-swap none (some b) = refl
 earlier-swap (some a) none = refl
 earlier-swap (some a) (some b) = ap some (omega arith)
 
-earlier-join : (a b c : Option ℕ) → earlier (earlier a b) c ≡ earlier a (earlier b c)
+pub earlier-join : (a b c : Option ℕ) → earlier (earlier a b) c ≡ earlier a (earlier b c)
 earlier-join none b c = refl
 earlier-join (some a) none c = refl
 earlier-join (some a) (some b) none = refl
@@ -142,7 +142,7 @@ module _ (addr : ℕ → ℕ) where
   Climbs n [] = Unit {0}
   Climbs n (j ∷ l) = (n ≤ addr j) × Climbs (addr j) l
 
-  none-below : (a n : ℕ) (l : List ℕ) → Climbs n l → a < n → firstAt a l ≡ none
+  pub none-below : (a n : ℕ) (l : List ℕ) → Climbs n l → a < n → firstAt a l ≡ none
   unfolding find firstIn
   none-below a n [] h k = refl
   none-below a n (j ∷ l) h k =
@@ -158,7 +158,7 @@ module _ (addr : ℕ → ℕ) where
       go true e r = (k, (leb-true _ _ e, h .1))
       go false e r = let p : addr y < addr x = leb-false _ _ e in (h .0, r (omega arith) (h .1))
 
-  sorted-climbs : (l : List ℕ) → Climbs 0 (sorted byAddress l)
+  pub sorted-climbs : (l : List ℕ) → Climbs 0 (sorted byAddress l)
   unfolding sorted
   sorted-climbs [] = tt
   sorted-climbs (x ∷ l) = insert-climbs 0 x (sorted byAddress l) (omega arith) (sorted-climbs l)

@@ -1,20 +1,33 @@
--- The symbols of one section by number, and the refusal of a number that a test of a symbol answers.
+-- The symbols of one section by number; number 10 by the records; the refusal that a number answered for a symbol stands for.
 use mathlib.Core.Path.{_≡_, refl}
-use mathlib.Core.List.{List, map}
+use mathlib.Core.Bool.{Bool, false, _||_}
+use mathlib.Core.List.{List, [], _∷_, map}
 use mathlib.Core.Option.{Option, none, some}
-use Prim.Native.Nat.{ℕ, zero, suc}
-use native.Mathlib.Omega.{arith}
+use Prim.Native.Nat.{ℕ, zero, suc, _+_, _-_, _<_, _≤_}
+use native.Mathlib.Nat.{not-suc-le-zero}
+use lib.Dec.{ltb}
+use lib.ListN.{length, getD}
+use lib.Seq.{slice}
 use Rattle.lists.specs.Tab.{tab}
 use Rattle.model.specs.declared.Head.{Head}
 use Rattle.model.specs.declared.Refusal.{Refusal}
 use Rattle.model.specs.declared.SectionIndex.{SectionIndex}
 use Rattle.model.specs.declared.SectionRecord.{SectionRecord}
 use Rattle.model.specs.declared.SymbolIndex.{SymbolIndex}
+use Rattle.model.specs.declared.SymbolRecord.{SymbolRecord}
 use Rattle.model.specs.Bytes.{keep}
 use Rattle.model.specs.Deposit.{byteOrder}
-use Rattle.model.specs.Symbols.{symbolsOf, programSymbols, isProgram}
+use Rattle.model.specs.Refusals.{isEmpty, passes}
+use Rattle.model.specs.Symbols.{top, liesIn, symbolsOf, programSymbols, isProgram}
 use Rattle.plan.specs.ByNumber.{members, programMembers, symbols-by, programs-by}
-use Rattle.view.specs.View.{sectionFrom, sectionIn, symbolIn, objectIn}
+use Rattle.plan.specs.Groups.{kept-below}
+use Rattle.records.specs.Records.{dataAt}
+use Rattle.stream.specs.Stream.{length-bytes}
+use Rattle.view.specs.View.{sectionFrom, symbolFrom, sectionIn, symbolIn, objectIn}
+
+-- 'address plus size passes the data or 2^64 - 1'
+abbrev pub pastData : ℕ → SymbolRecord → Bool
+pastData n y = ltb n (y .address + y .size) || ltb top (y .address + y .size)
 
 module _ (d : List ℕ) (gap : ℕ) (h : Head) where
   -- the numbers of a section's symbols
@@ -33,6 +46,19 @@ module _ (d : List ℕ) (gap : ℕ) (h : Head) where
     pub programs-in : programSymbols (objectIn d gap h) (sectionFrom d gap h s) ≡ map (symbolIn d gap h) (programsAmong (membersIn s))
     unfolding objectIn programMembers
     programs-in = programs-by (byteOrder (h .order)) (tab (sectionIn d gap h) (h .sections)) (symbolIn d gap h) (h .symbols) (sectionFrom d gap h s)
+
+    -- a number of the group is a symbol's
+    pub member-below : (lo hi k : ℕ) (order : List ℕ) → slice lo hi order ≡ membersIn s → hi ≤ length order → lo ≤ k → k < hi → getD order k 0 < h .symbols
+    unfolding members
+    member-below lo hi k order e = kept-below (λ j. liesIn (sectionFrom d gap h s .index) (symbolIn d gap h j .section)) (h .symbols) lo hi k order e
+
+  pub some-symbol : (js : List ℕ) → 0 < length js → isEmpty (map (symbolIn d gap h) js) ≡ false
+  some-symbol [] l = absurd (not-suc-le-zero l)
+  some-symbol (j ∷ js) l = refl
+
+  pub past-by-record : (s : SectionRecord) (y : SymbolRecord) → passes (sectionFrom d gap h s .bytes) (symbolFrom d gap h y) ≡ pastData (s .bytes .length) y
+  unfolding passes sectionFrom symbolFrom
+  past-by-record s y = rw (length-bytes d gap (dataAt h + s .bytes .at) (s .bytes .length))
 
 -- the refusal that a number other than 0 stands for
 abbrev pub faultOf : ℕ → SectionIndex → SymbolIndex → Option Refusal

@@ -1,6 +1,7 @@
 // What a deposit's records stand for: the kind of a section, and which symbols are programs or defined text.
 ghost use mathlib.Core.Path.{_≡_};
 ghost use Prim.Native.Nat.{_^_, _<_, _≤_};
+ghost use Rattle.model.specs.Refusals.{noSymbol};
 ghost use Rattle.model.specs.SectionKind.{kindOf};
 ghost use Rattle.records.specs.Records.{namesAt, dataAt};
 ghost use Rattle.view.specs.View.{sectionFrom, namedText, definedRecord};
@@ -8,6 +9,7 @@ use model::EbpfSectionKind;
 use model::Head;
 use model::Refusal;
 use model::SectionRecord;
+use model::SymbolIndex;
 use model::SymbolRecord;
 use stream::size;
 
@@ -15,6 +17,33 @@ use stream::size;
 pub enum Checked {
     Fine,
     Refused(Refusal),
+}
+
+// Refused, with the section named.
+pub fn of_section(number: u32, s: SectionRecord) -> Checked
+    ensures { λ r. ⌜ r ≡ Checked.Refused (record { number = number; section = s .index; symbol = noSymbol; entry = 0 }) ⌝ }
+{
+    let section = s.index;
+    Checked::Refused(Refusal {
+        number,
+        section,
+        symbol: SymbolIndex(0),
+        entry: 0,
+    })
+}
+
+// Refused, with the section and the symbol named.
+pub fn of_symbol(number: u32, s: SectionRecord, y: SymbolRecord) -> Checked
+    ensures { λ r. ⌜ r ≡ Checked.Refused (record { number = number; section = s .index; symbol = y .index; entry = 0 }) ⌝ }
+{
+    let section = s.index;
+    let symbol = y.index;
+    Checked::Refused(Refusal {
+        number,
+        section,
+        symbol,
+        entry: 0,
+    })
 }
 
 // Where the names begin.

@@ -1,0 +1,89 @@
+-- `first_checks::license_of` meets its contract: the data's place and the section's, without the last byte.
+use mathlib.Core.Path.{_≡_, sym, _∙_}
+use Prim.Native.Nat.{_-_}
+use denote.Ref.{now}
+use native.Mathlib.Omega.{arith}
+use Rattle.model.specs.Bytes.{ascii}
+use Rattle.first_checks.specs.Named.{numberNamed, found-nothing, found-at}
+use Rattle.first_checks.specs.LicenceVersion.{licenseAt}
+use borrow.Author.Needs.{needs}
+use Rattle.first_checks.proofs.license_of.Statement.{statement}
+use Rattle.first_checks.proofs.license_of.Tie as tie
+
+slice-aggregate-first-named : tie.Need-slice-aggregate-first-named
+slice-aggregate-first-named c = search needs
+
+first-named-requires : tie.Need-first-named-requires
+first-named-requires c κs = search needs
+
+enum-known-i : tie.Need-enum-known-i
+enum-known-i c = search needs
+
+enum-told : tie.Need-enum-told
+enum-told c = search needs
+
+returns : tie.Need-returns
+unfolding licenseAt
+returns c =
+    let n = c .before .before in
+    let a = n .before .before .before .args in
+    let o = found-nothing (numberNamed (now (a .d)) (a .gap) (a .h) (ascii "license")) (sym (n .first-named .ensures) ∙ c .enum-told .given .1) in
+    rw o
+
+section-requires : tie.Need-section-requires
+section-requires c κs = search needs
+
+bytes-at-requires : tie.Need-bytes-at-requires
+bytes-at-requires c κs = search needs
+
+size-requires : tie.Need-size-requires
+size-requires c κs = search needs
+
+add-at : tie.Need-add-at
+add-at c = search needs
+
+size-requires-2 : tie.Need-size-requires-2
+size-requires-2 c κs = search needs
+
+returns-2 : tie.Need-returns-2
+unfolding licenseAt
+returns-2 c =
+    let s = c .before .before .before .before in
+    let i = s .before .before in
+    let n = i .before .before in
+    let a = n .before .before .before .args in
+    let o = found-at (numberNamed (now (a .d)) (a .gap) (a .h) (ascii "license")) (i .i .given .0 .0) (sym (n .first-named .ensures) ∙ i .i .given .1) in
+    let z : s .section .result .bytes .length - 1 ≡ 0 = omega arith in
+    rw (o, ← s .section .ensures, z, c .before .before .before .bytes-at .ensures .0, c .before .before .size .ensures .0)
+
+sub-t12 : tie.Need-sub-t12
+sub-t12 c = search needs
+
+returns-3 : tie.Need-returns-3
+unfolding licenseAt
+returns-3 c =
+    let s = c .before .before .before .before in
+    let i = s .before .before in
+    let n = i .before .before in
+    let a = n .before .before .before .args in
+    let o = found-at (numberNamed (now (a .d)) (a .gap) (a .h) (ascii "license")) (i .i .given .0 .0) (sym (n .first-named .ensures) ∙ i .i .given .1) in
+    let z : s .section .result .bytes .length - 1 ≡ c .before .size2 .result - 1 = omega arith in
+    rw (o, ← s .section .ensures, z, c .before .before .before .bytes-at .ensures .0, c .before .before .size .ensures .0)
+
+pub license-of-spec : {M : Type 1} → statement M
+license-of-spec =
+    tie.close
+    (tie.spec
+    slice-aggregate-first-named
+    first-named-requires
+    enum-known-i
+    enum-told
+    returns
+    section-requires
+    bytes-at-requires
+    size-requires
+    add-at
+    size-requires-2
+    returns-2
+    sub-t12
+    returns-3)

@@ -1,0 +1,35 @@
+-- `first_checks::parsed_license` meets its contract: the licence's place is the data's and its own.
+use Rattle.view.specs.View.{sectionFrom}
+use borrow.Author.Needs.{needs}
+use Rattle.first_checks.proofs.parsed_license.Statement.{statement}
+use Rattle.first_checks.proofs.parsed_license.Tie as tie
+
+bytes-at-requires : tie.Need-bytes-at-requires
+bytes-at-requires c κs = search needs
+
+size-requires : tie.Need-size-requires
+size-requires c κs = search needs
+
+add-at : tie.Need-add-at
+add-at c = search needs
+
+size-requires-2 : tie.Need-size-requires-2
+size-requires-2 c κs = search needs
+
+parse-license-requires : tie.Need-parse-license-requires
+parse-license-requires c κs = search needs
+
+returns : tie.Need-returns
+unfolding sectionFrom
+returns c = cc
+
+pub parsed-license-spec : {M : Type 1} → statement M
+parsed-license-spec =
+    tie.close
+    (tie.spec
+    bytes-at-requires
+    size-requires
+    add-at
+    size-requires-2
+    parse-license-requires
+    returns)

@@ -1,0 +1,117 @@
+-- The first section of a name, by its number.
+use mathlib.Core.Path.{_≡_, refl, sym, ap, _∙_}
+use mathlib.Core.Bool.{Bool, true, false, cond}
+use mathlib.Core.List.{List, [], _∷_, map}
+use mathlib.Core.Option.{Option, none, some}
+use Prim.Native.Nat.{ℕ, zero, suc, _+_, _*_, _<_}
+use native.Mathlib.Omega.{arith}
+use Rattle.lists.specs.Tab.{tab}
+use Rattle.model.specs.declared.Head.{Head}
+use Rattle.model.specs.Bytes.{same, firstIn, find, orElse, maybe}
+use Rattle.model.specs.Object.{Section}
+use Rattle.model.specs.Symbols.{firstNamed}
+use Rattle.plan.specs.Numbers.{upTo, firstIn-append, firstIn-on, firstIn-at, tab-is-map}
+use Rattle.stream.specs.Stream.{bytesAt}
+use Rattle.records.specs.Records.{namesAt, sectionAt, extentAt}
+use Rattle.records.specs.Fields.{section-fields}
+use Rattle.view.specs.View.{sectionFrom, sectionIn, objectIn}
+use Rattle.first_checks.specs.declared.Found.{Found}
+
+abbrev pub foundOf : Option ℕ → Found
+foundOf none = Found.Nothing
+foundOf (some i) = Found.At i
+
+pub found-nothing : (o : Option ℕ) → foundOf o ≡ Found.Nothing → o ≡ none
+found-nothing none e = refl
+found-nothing (some i) e = let z : _≡_ {A = ℕ} 0 1 = cc in absurd (omega arith)
+
+pub found-at : (o : Option ℕ) (i : ℕ) → foundOf o ≡ Found.At i → o ≡ some i
+found-at none i e = let z : _≡_ {A = ℕ} 0 1 = cc in absurd (omega arith)
+found-at (some j) i e = let q : Found.At j ≡ Found.At i = e in cc
+
+-- ---- the first number below n that passes
+
+module _ (p : ℕ → Bool) where
+  abbrev pub firstOf : ℕ → Option ℕ
+  firstOf n = find p (upTo n)
+
+  pub first-zero : firstOf 0 ≡ none
+  unfolding find firstIn tab
+  first-zero = refl
+
+  pub first-on : (i : ℕ) → firstOf i ≡ none → p i ≡ false → firstOf (i + 1) ≡ none
+  unfolding find
+  first-on i h e = firstIn-on (λ x. cond (p x) (some x) none) (λ x. x) i h (rw e)
+
+  pub first-at : (i n : ℕ) → i < n → firstOf i ≡ none → p i ≡ true → firstOf n ≡ some i
+  unfolding find
+  first-at i n l h e = firstIn-at (λ x. cond (p x) (some x) none) (λ x. x) i n i l h (rw e)
+
+  pub first-below : (n i : ℕ) → firstOf n ≡ some i → i < n
+  unfolding find firstIn tab
+  first-below zero i e = let z : _≡_ {A = ℕ} 0 1 = cc in absurd (omega arith)
+  first-below (suc n) i e =
+      go (firstOf n) (p n) (first-below n i) (sym (firstIn-append (λ x. cond (p x) (some x) none) (upTo n) (n ∷ [])) ∙ e)
+    where
+      go : (o : Option ℕ) (b : Bool) → (o ≡ some i → i < n) → orElse o (orElse (cond b (some n) none) none) ≡ some i → i < suc n
+      go (some j) b f g = omega (arith, f g)
+      go none true f g = let q : some n ≡ some i = g in let r : n ≡ i = cc in omega arith
+      go none false f g = let z : _≡_ {A = ℕ} 0 1 = cc in absurd (omega arith)
+
+find-map : {A : Type 0} (p : A → Bool) (s : ℕ → A) (l : List ℕ) → find p (map s l) ≡ maybe (find (λ i. p (s i)) l) none (λ i. some (s i))
+unfolding find firstIn
+find-map p s [] = refl
+find-map {A} p s (j ∷ l) = go (p (s j)) (find-map p s l)
+  where
+    go : (b : Bool) → firstIn (λ y. cond (p y) (some y) none) (map s l) ≡ maybe (firstIn (λ i. cond (p (s i)) (some i) none) l) none (λ i. some (s i))
+        → orElse (cond b (some (s j)) none) (firstIn (λ y. cond (p y) (some y) none) (map s l))
+        ≡ maybe (orElse (cond b (some j) none) (firstIn (λ i. cond (p (s i)) (some i) none) l)) none (λ i. some (s i))
+    go true h = refl
+    go false h = h
+
+-- ---- sections by name
+
+module _ (d : List ℕ) (gap : ℕ) where
+  -- the name of section i, of names that begin at `names`
+  unfoldable pub nameAt : ℕ → ℕ → List ℕ
+  nameAt names i = bytesAt d gap (names + sectionAt d gap i .name .at) (sectionAt d gap i .name .length)
+
+  -- the place of its range
+  pub name-place : (i p : ℕ) → p ≡ 40 + 48 * i → sectionAt d gap i .name ≡ extentAt d gap p
+  unfolding sectionAt
+  name-place i p e =
+      let q : 32 + 48 * i + 8 ≡ p = omega arith in
+      ap (λ r. r .name) (section-fields d gap (32 + 48 * i)) ∙ ap (extentAt d gap) q
+
+  -- whether section i is named exactly so
+  abbrev pub namedAt : List ℕ → ℕ → ℕ → Bool
+  namedAt word names i = same word (nameAt names i)
+
+  module _ (h : Head) (word : List ℕ) where
+    -- the first section of that name
+    unfoldable pub numberNamed : Option ℕ
+    numberNamed = find (λ i. same word (sectionIn d gap h i .name)) (upTo (h .sections))
+
+    pub number-by-names : (names : ℕ) → names ≡ namesAt h → numberNamed ≡ firstOf (namedAt word names) (h .sections)
+    unfolding numberNamed sectionFrom nameAt
+    number-by-names names e = rw e
+
+    pub number-named : firstNamed word (tab (sectionIn d gap h) (h .sections)) ≡ maybe numberNamed none (λ i. some (sectionIn d gap h i))
+    unfolding firstNamed numberNamed
+    number-named =
+        ap (find (λ s. same word (s .name))) (tab-is-map (sectionIn d gap h) (h .sections))
+        ∙ find-map (λ s. same word (s .name)) (sectionIn d gap h) (upTo (h .sections))
+
+    -- what is made of that section
+    pub made-of-named : {B : Type 0} (b : B) (f : Section → B)
+        → maybe (firstNamed word (objectIn d gap h .sections)) b f ≡ maybe numberNamed b (λ i. f (sectionIn d gap h i))
+    unfolding objectIn
+    made-of-named b f = ap (λ o. maybe o b f) number-named ∙ go numberNamed
+      where
+        go : (o : Option ℕ) → maybe (maybe o none (λ i. some (sectionIn d gap h i))) b f ≡ maybe o b (λ i. f (sectionIn d gap h i))
+        go none = refl
+        go (some i) = refl
+
+    pub number-below : (i : ℕ) → numberNamed ≡ some i → i < h .sections
+    unfolding numberNamed
+    number-below i e = first-below (λ j. same word (sectionIn d gap h j .name)) (h .sections) i e

@@ -1,0 +1,3 @@
+-- What refuses a `maps` section and its symbols.
+pub mod Fault
+pub mod Refused

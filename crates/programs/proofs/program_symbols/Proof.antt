@@ -1,0 +1,123 @@
+-- `programs::program_symbols` meets its contract. The loop's invariant: the first refusal of the group is the first from i on.
+use mathlib.Core.Path.{_≡_, refl, sym, ap, _∙_}
+use mathlib.Core.Logic.{⊎-elim}
+use mathlib.Core.Option.{none, some}
+use Prim.Native.Nat.{_-_}
+use denote.Ref.{now}
+use native.Mathlib.Omega.{arith}
+use lib.ListN.{getD}
+use lib.Seq.{slice}
+use Rattle.model.specs.Bytes.{firstIn}
+use Rattle.model.specs.Refusals.{programSymbolRefusal}
+use Rattle.model.specs.Symbols.{isProgram}
+use Rattle.plan.specs.Groups.{first-next, first-found, first-end, first-kept}
+use Rattle.view.specs.Checked.{checkedOf}
+use Rattle.view.specs.View.{sectionFrom, symbolIn}
+use Rattle.programs.specs.Fault.{programFault, refusalBy, refusalAt, refusal-other, refusal-fine, refusal-some}
+use borrow.Author.Needs.{needs}
+use Rattle.programs.proofs.program_symbols.Statement.{statement}
+use Rattle.programs.proofs.program_symbols.Tie as tie
+
+abbrev Inv-loop : tie.InvT-loop
+Inv-loop d gap h s order lo hi i₀ i = firstIn (refusalAt d gap h s) (slice lo hi order) ≡ firstIn (refusalAt d gap h s) (slice i hi order)
+
+abbrev μ-loop : tie.MeasureT-loop
+μ-loop d gap h s order lo hi i₀ i = hi - i
+
+loop-holds : tie.Need-loop-holds Inv-loop μ-loop
+loop-holds c = refl
+
+mul-symbol : tie.Need-mul-symbol Inv-loop μ-loop
+mul-symbol c = search needs
+
+shared-slice-read-symbol : tie.Need-shared-slice-read-symbol Inv-loop μ-loop
+shared-slice-read-symbol c = search needs
+
+symbol-requires : tie.Need-symbol-requires Inv-loop μ-loop
+symbol-requires c κs = search needs
+
+is-program-requires : tie.Need-is-program-requires Inv-loop μ-loop
+is-program-requires c κs = search needs
+
+program-fault-requires : tie.Need-program-fault-requires Inv-loop μ-loop
+program-fault-requires c κs = search needs
+
+of-symbol-requires : tie.Need-of-symbol-requires Inv-loop μ-loop
+of-symbol-requires c κs = search needs
+
+returns : tie.Need-returns Inv-loop μ-loop
+returns c =
+    let f = c .before .before in
+    let p = f .before .before in
+    let y = p .before .symbol .result in
+    let l = p .before .before .before .before in
+    let a = l .before .before .before .args in
+    let d = now (a .d) in
+    let look = refusalAt d (a .gap) (a .h) (a .s) in
+    let i = l .loop .i in
+    let fault : f .program-fault .result ≡ programFault (a .s) y = f .program-fault .ensures in
+    let n : programFault (a .s) y ≡ 0 → ⊥ = λ e. c .before .if2 .taken (fault ∙ e) in
+    let at : look (getD (now (a .order)) i 0) ≡ some (record { number = f .program-fault .result; section = a .s .index; symbol = y .index; entry = 0 }) =
+    ap (refusalBy d (a .gap) (a .h) (a .s)) (sym (p .before .symbol .ensures))
+    ∙ refusal-some d (a .gap) (a .h) (a .s) y (sym (p .is-program .ensures) ∙ f .before .if1 .taken) n
+    ∙ rw fault in
+    c .of-symbol .ensures
+    ∙ sym
+    (ap checkedOf
+    (first-kept (programSymbolRefusal (sectionFrom d (a .gap) (a .h) (a .s))) (symbolIn d (a .gap) (a .h)) (λ j. isProgram (symbolIn d (a .gap) (a .h) j)) (slice (a .lo) (a .hi) (now (a .order)))
+    ∙ l .loop .inv
+    ∙ first-found look i (a .hi) (now (a .order)) _ (omega arith) (omega arith) at))
+
+add-i : tie.Need-add-i Inv-loop μ-loop
+add-i c = search needs
+
+loop-less : tie.Need-loop-less Inv-loop μ-loop
+loop-less c = search needs
+
+loop-again : tie.Need-loop-again Inv-loop μ-loop
+loop-again c =
+    let p = c .before in
+    let y = p .before .symbol .result in
+    let l = p .before .before .before .before in
+    let a = l .before .before .before .args in
+    let d = now (a .d) in
+    let look = refusalAt d (a .gap) (a .h) (a .s) in
+    let i = l .loop .i in
+    let none-at : look (getD (now (a .order)) i 0) ≡ none =
+    ap (refusalBy d (a .gap) (a .h) (a .s)) (sym (p .before .symbol .ensures))
+    ∙ ⊎-elim
+    (λ w. refusal-fine d (a .gap) (a .h) (a .s) y (sym (w .1 .ensures) ∙ w .2 .left))
+    (λ w. refusal-other d (a .gap) (a .h) (a .s) y (sym (p .is-program .ensures) ∙ w .left))
+    (c .if1 .came) in
+    l .loop .inv ∙ first-next look i (a .hi) (now (a .order)) (omega arith) (omega arith) none-at
+
+returns-2 : tie.Need-returns-2 Inv-loop μ-loop
+returns-2 c =
+    let l = c .before in
+    let a = l .before .before .before .args in
+    let d = now (a .d) in
+    let look = refusalAt d (a .gap) (a .h) (a .s) in
+    sym
+    (ap checkedOf
+    (first-kept (programSymbolRefusal (sectionFrom d (a .gap) (a .h) (a .s))) (symbolIn d (a .gap) (a .h)) (λ j. isProgram (symbolIn d (a .gap) (a .h) j)) (slice (a .lo) (a .hi) (now (a .order)))
+    ∙ l .loop .inv
+    ∙ first-end look (l .loop .i) (a .hi) (now (a .order)) (omega arith)))
+
+pub program-symbols-spec : {M : Type 1} → statement M
+program-symbols-spec =
+    tie.close
+    (tie.spec
+    Inv-loop
+    μ-loop
+    loop-holds
+    mul-symbol
+    shared-slice-read-symbol
+    symbol-requires
+    is-program-requires
+    program-fault-requires
+    of-symbol-requires
+    returns
+    add-i
+    loop-less
+    loop-again
+    returns-2)

@@ -1,0 +1,122 @@
+// Program sections: what refuses one, and the numbers of the programs that it lists.
+ghost use mathlib.Core.Path.{_≡_};
+ghost use mathlib.Core.List.{_++_, map};
+ghost use Prim.Native.Nat.{_+_, _-_, _<_, _≤_};
+ghost use lib.ListN.{length, take, drop};
+ghost use lib.Seq.{slice};
+ghost use Rattle.model.specs.Bytes.{firstIn};
+ghost use Rattle.model.specs.Refusals.{programSymbolRefusal, programRefusal};
+ghost use Rattle.view.specs.Checked.{checkedOf};
+ghost use Rattle.view.specs.Group.{membersIn, programsAmong};
+ghost use Rattle.view.specs.View.{sectionFrom, symbolIn, objectIn};
+ghost use Rattle.programs.specs.Fault.{programFault};
+use model::Head;
+use model::ParsedProgramSection;
+use model::SectionRecord;
+use model::SymbolRecord;
+use stream::size;
+use stream::wide64;
+use view::Checked;
+
+// What refuses a program's symbol: 10 or 15, else 0. No sum is made, so none can wrap.
+fn program_fault(s: SectionRecord, y: SymbolRecord) -> u32
+    ensures { λ r. ⌜ r ≡ programFault s y ⌝ }
+{
+    let length = wide64(s.bytes.length);
+    if y.address < s.address {
+        return 10;
+    }
+    if length < y.address {
+        return 10;
+    }
+    if length - y.address < y.size {
+        return 10;
+    }
+    if insn::invalid_program_code(y.size) {
+        15
+    } else {
+        0
+    }
+}
+
+// The first refusal of a program among the symbols of a group.
+pub fn program_symbols(
+    d: &[u8],
+    gap: usize,
+    h: Head,
+    s: SectionRecord,
+    order: &[u32],
+    lo: usize,
+    hi: usize,
+) -> Checked
+    requires { ⌜ (gap ≤ 4) × (hi ≤ length (now order)) ⌝ }
+    ensures { λ r. ⌜ r ≡ checkedOf (firstIn (programSymbolRefusal (sectionFrom (now (d .entry)) gap h s)) (map (symbolIn (now (d .entry)) gap h) (programsAmong (now (d .entry)) gap h (slice lo hi (now (order .entry)))))) ⌝ }
+{
+    let mut i = lo;
+    while i < hi {
+        let y = records::symbol(d, gap, h, order[i]);
+        if view::is_program(y) {
+            let fault = program_fault(s, y);
+            if fault != 0 {
+                return view::of_symbol(fault, s, y);
+            }
+        }
+        i += 1;
+    }
+    Checked::Fine
+}
+
+// What refuses a program section; the group is that of its symbols.
+pub fn program_refusal(
+    d: &[u8],
+    gap: usize,
+    h: Head,
+    s: SectionRecord,
+    order: &[u32],
+    lo: usize,
+    hi: usize,
+) -> Checked
+    requires { ⌜ (gap ≤ 4) × (hi ≤ length (now order)) × (slice lo hi (now order) ≡ membersIn (now d) gap h s) ⌝ }
+    ensures { λ r. ⌜ r ≡ checkedOf (programRefusal (objectIn (now (d .entry)) gap h) (sectionFrom (now (d .entry)) gap h s)) ⌝ }
+{
+    let at = view::names_at(h) + size(s.name.at);
+    let n = size(s.name.length);
+    let parsed = program_section::from_str(d, gap, at, n);
+    match parsed {
+        ParsedProgramSection::InvalidProgramSection => view::of_section(8, s),
+        ParsedProgramSection::Section(_) => {
+            if hi <= lo {
+                view::of_section(9, s)
+            } else {
+                program_symbols(d, gap, h, s, order, lo, hi)
+            }
+        }
+    }
+}
+
+// Appends the numbers of a group's programs to the first w of out.
+pub fn program_numbers(
+    d: &[u8],
+    gap: usize,
+    h: Head,
+    order: &[u32],
+    lo: usize,
+    hi: usize,
+    out: &mut [u32],
+    w: usize,
+) -> usize
+    requires { ⌜ (gap ≤ 4) × (lo ≤ hi) × (hi ≤ length (now order)) × (w + (hi - lo) ≤ length (now out)) ⌝ }
+    ensures { λ r. ⌜ (r ≡ w + length (programsAmong (now (d .entry)) gap h (slice lo hi (now (order .entry))))) × (now (out .exit) ≡ take w (now (out .entry)) ++ (programsAmong (now (d .entry)) gap h (slice lo hi (now (order .entry))) ++ drop r (now (out .entry)))) ⌝ }
+{
+    let mut n = w;
+    let mut i = lo;
+    while i < hi {
+        let j = order[i];
+        if view::is_program(records::symbol(d, gap, h, j)) {
+            out[n] = j;
+            n += 1;
+        }
+        i += 1;
+    }
+    n
+}

@@ -1,0 +1,44 @@
+-- The defined text symbols of a part of a list of symbol numbers.
+use mathlib.Core.Path.{_≡_, refl, sym, ap, _∙_}
+use mathlib.Core.Bool.{Bool, true, false}
+use mathlib.Core.List.{List, [], _∷_}
+use Prim.Native.Nat.{ℕ, suc, _+_, _<_, _≤_}
+use native.Mathlib.Omega.{arith}
+use native.Mathlib.Numerals.{add-one}
+use lib.ListN.{length, getD}
+use lib.Seq.{slice, slice-empty, slice-cons}
+use Rattle.lists.specs.Tab.{tab}
+use Rattle.model.specs.declared.Head.{Head}
+use Rattle.model.specs.Bytes.{push, keep}
+use Rattle.model.specs.Object.{Section, Symbol}
+use Rattle.model.specs.Deposit.{byteOrder}
+use Rattle.plan.specs.ByNumber.{isDefinedText, textOrder}
+use Rattle.view.specs.View.{symbolIn, sectionIn}
+
+module _ (d : List ℕ) (gap : ℕ) (h : Head) where
+  abbrev pub addressIn : ℕ → ℕ
+  addressIn j = symbolIn d gap h j .address
+
+  -- those of the numbers from place k up to place hi
+  unfoldable pub textGroup : List ℕ → ℕ → ℕ → List ℕ
+  textGroup order k hi = keep (λ j. isDefinedText (symbolIn d gap h j)) (slice k hi order)
+
+  -- a section's defined text in order of address
+  abbrev pub textIn : Section → List ℕ
+  textIn s = textOrder (byteOrder (h .order)) (tab (sectionIn d gap h) (h .sections)) (symbolIn d gap h) (h .symbols) s
+
+  pub group-end : (order : List ℕ) (k hi : ℕ) → hi ≤ k → k ≤ hi → textGroup order k hi ≡ []
+  unfolding textGroup keep
+  group-end order k hi p q = let e : k ≡ hi = omega arith in rw (e, slice-empty)
+
+  module _ (order : List ℕ) (k hi : ℕ) (p : k < hi) (q : hi ≤ length order) where
+    next : textGroup order k hi
+        ≡ push (isDefinedText (symbolIn d gap h (getD order k 0))) (getD order k 0) (textGroup order (k + 1) hi)
+    unfolding textGroup keep
+    next = rw (slice-cons k hi order 0 p q, add-one)
+
+    pub group-text : isDefinedText (symbolIn d gap h (getD order k 0)) ≡ true → textGroup order k hi ≡ getD order k 0 ∷ textGroup order (k + 1) hi
+    group-text e = next ∙ rw e
+
+    pub group-other : isDefinedText (symbolIn d gap h (getD order k 0)) ≡ false → textGroup order k hi ≡ textGroup order (k + 1) hi
+    group-other e = next ∙ rw e

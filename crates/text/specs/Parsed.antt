@@ -1,0 +1,198 @@
+-- What parsing a text section answers, by the records of a deposit.
+use mathlib.Core.Path.{_≡_, refl, sym, ap, _∙_}
+use mathlib.Core.Bool.{Bool, true, false}
+use mathlib.Core.List.{List, [], _∷_, _++_}
+use mathlib.Core.Option.{Option, none, some}
+use Prim.Native.Nat.{ℕ, suc, _+_, _-_, _<_, _≤_}
+use native.Mathlib.Omega.{arith}
+use native.Mathlib.Nat.{add-zero}
+use borrow.Author.Tests.{lt-leb, le-leb}
+use lib.Dec.{eqb, ltb}
+use lib.ListN.{length, take, drop, take-append-drop}
+use Rattle.lists.specs.Tab.{tab}
+use Rattle.model.specs.declared.SectionIndex.{SectionIndex}
+use Rattle.model.specs.declared.SymbolIndex.{SymbolIndex}
+use Rattle.model.specs.declared.Head.{Head}
+use Rattle.model.specs.declared.SectionRecord.{SectionRecord}
+use Rattle.model.specs.declared.SymbolRecord.{SymbolRecord}
+use Rattle.model.specs.declared.Refusal.{Refusal}
+use Rattle.model.specs.Bytes.{orElse, maybe}
+use Rattle.model.specs.Object.{Section, Symbol}
+use Rattle.model.specs.Symbols.{top}
+use Rattle.model.specs.Deposit.{byteOrder}
+use Rattle.model.specs.Instruction.{invalidProgramCode}
+use Rattle.model.specs.Refusals.{noSymbol, refuse, ofSection, stopRefusal, textRefusal}
+use Rattle.stream.specs.Stream.{bytesAt, length-bytes}
+use Rattle.plan.specs.Shared.{firstAt, leastAgain}
+use Rattle.plan.specs.Walk.{numberIn, walkRefusal, walkNumbers, walk-end, walk-lost, walk-met}
+use Rattle.records.specs.Records.{dataAt, symbolAt}
+use Rattle.view.specs.View.{sectionFrom, symbolFrom, sectionIn, symbolIn, objectIn}
+use Rattle.view.specs.declared.Checked.{Checked}
+use Rattle.view.specs.Checked.{checkedOf}
+use Rattle.text.specs.declared.Conflict.{Conflict}
+use Rattle.text.specs.declared.ParsedText.{ParsedText}
+use Rattle.text.specs.Group.{addressIn, textGroup, textIn}
+use Rattle.text.specs.Again.{conflictOf, at-number, no-number}
+use Rattle.text.specs.Kept.{refusalAt, keptNumbers, kept-end, kept-lost, kept-refused, kept-met, textNumbers, text-by-walk, numbers-by-walk, numbers-accepted}
+
+abbrev pub refusal : ℕ → SectionIndex → SymbolIndex → Refusal
+refusal n s y = record { number = n; section = s; symbol = y; entry = 0 }
+
+abbrev pub unknownSymbol : SectionRecord → Refusal
+unknownSymbol s = refusal 12 (s .index) noSymbol
+
+-- 13 to 15 by the records
+unfoldable pub invalidSymbol : SectionRecord → SymbolRecord → ℕ → Option Refusal
+invalidSymbol s y o =
+    orElse (refuse (eqb (y .size) 0) 13 (s .index) (y .index) 0)
+    (orElse (refuse (ltb (s .bytes .length) (o + y .size)) 14 (s .index) (y .index) 0)
+    (refuse (invalidProgramCode (y .size)) 15 (s .index) (y .index) 0))
+
+-- what a check's answer says of the refusal
+pub checked-fine : (q : Option Refusal) → checkedOf q ≡ Checked.Fine → q ≡ none
+checked-fine none e = refl
+checked-fine (some r) e = let z : _≡_ {A = ℕ} 0 1 = cc in absurd (omega arith)
+
+pub checked-refused : (q : Option Refusal) (r : Refusal) → checkedOf q ≡ Checked.Refused r → q ≡ some r
+checked-refused none r e = let z : _≡_ {A = ℕ} 0 1 = cc in absurd (omega arith)
+checked-refused (some x) r e = cc
+
+abbrev pub parsedText : Option Refusal → ℕ → ParsedText
+parsedText none n = ParsedText.Functions n
+parsedText (some r) n = ParsedText.Refused r
+
+-- the numbers m laid into t from place w on
+abbrev pub laid : List ℕ → ℕ → List ℕ → List ℕ
+laid t w m = take w t ++ (m ++ drop (w + length m) t)
+
+module _ (d : List ℕ) (gap : ℕ) (h : Head) (s : SectionRecord) where
+  abbrev sec : Section
+  sec = sectionFrom d gap h s
+
+  -- the walk from an offset on: what it is refused with, the numbers it keeps, and the one at the offset
+  abbrev pub walkFrom : ℕ → ℕ → Option Refusal
+  walkFrom = walkRefusal (byteOrder (h .order)) (tab (sectionIn d gap h) (h .sections)) (symbolIn d gap h) (h .symbols) sec
+
+  abbrev pub keptFrom : ℕ → ℕ → List ℕ
+  keptFrom = keptNumbers (byteOrder (h .order)) (tab (sectionIn d gap h) (h .sections)) (symbolIn d gap h) (h .symbols) sec
+
+  abbrev pub numberFrom : ℕ → Option ℕ
+  numberFrom = numberIn (byteOrder (h .order)) (tab (sectionIn d gap h) (h .sections)) (symbolIn d gap h) (h .symbols) sec
+
+  data-length : length (sec .bytes) ≡ s .bytes .length
+  unfolding sectionFrom
+  data-length = length-bytes d gap (dataAt h + s .bytes .at) (s .bytes .length)
+
+  -- the number at an offset, by the search for its address
+  pub number-passed : (o : ℕ) → top < s .address + o → numberFrom o ≡ none
+  unfolding sectionFrom
+  number-passed o l = rw (lt-leb (s .address + o) top l)
+
+  pub number-found : (o : ℕ) (q : Option ℕ) → s .address + o ≤ top → firstAt (addressIn d gap h) (s .address + o) (textIn d gap h sec) ≡ q → numberFrom o ≡ q
+  unfolding sectionFrom
+  number-found o q l f = rw (le-leb (s .address + o) top l) f
+
+  stop-by-record : (o j : ℕ)
+      → refusalAt (byteOrder (h .order)) (tab (sectionIn d gap h) (h .sections)) (symbolIn d gap h) (h .symbols) sec o j ≡ invalidSymbol s (symbolAt d gap h j) o
+  unfolding sectionFrom symbolFrom stopRefusal invalidSymbol
+  stop-by-record o j = rw length-bytes
+
+  size-by-record : (j : ℕ) → symbolIn d gap h j .size ≡ symbolAt d gap h j .size
+  unfolding symbolFrom
+  size-by-record j = refl
+
+  -- the walk at an offset
+  pub walk-at-end : (f o : ℕ) → s .bytes .length ≤ o → (walkFrom f o ≡ none) × (keptFrom f o ≡ [])
+  walk-at-end f o l =
+      let p : length (sec .bytes) ≤ o = rw data-length l in (
+        walk-end (byteOrder (h .order)) (tab (sectionIn d gap h) (h .sections)) (symbolIn d gap h) (h .symbols) sec f o p,
+        kept-end (byteOrder (h .order)) (tab (sectionIn d gap h) (h .sections)) (symbolIn d gap h) (h .symbols) sec f o p,
+      )
+
+  module _ (f o : ℕ) (l : o < s .bytes .length) (m : 0 < f) where
+    before-end : o < length (sec .bytes)
+    before-end = rw data-length l
+
+    fuelled : f ≡ suc (f - 1)
+    fuelled = omega arith
+
+    pub walk-at-none : numberFrom o ≡ none → (walkFrom f o ≡ some (unknownSymbol s)) × (keptFrom f o ≡ [])
+    unfolding sectionFrom
+    walk-at-none q = (
+      ap (λ g. walkFrom g o) fuelled ∙ walk-lost (byteOrder (h .order)) (tab (sectionIn d gap h) (h .sections)) (symbolIn d gap h) (h .symbols) sec (f - 1) o before-end q,
+      kept-lost (byteOrder (h .order)) (tab (sectionIn d gap h) (h .sections)) (symbolIn d gap h) (h .symbols) sec f o q,
+    )
+
+    met : (j : ℕ) → numberFrom o ≡ some j → walkFrom f o ≡ orElse (invalidSymbol s (symbolAt d gap h j) o) (walkFrom (f - 1) (o + symbolAt d gap h j .size))
+    met j q =
+        ap (λ g. walkFrom g o) fuelled
+        ∙ walk-met (byteOrder (h .order)) (tab (sectionIn d gap h) (h .sections)) (symbolIn d gap h) (h .symbols) sec (f - 1) o j before-end q
+        ∙ rw (stop-by-record o j, size-by-record j)
+
+    pub walk-at-refused : (j : ℕ) (r : Refusal) → numberFrom o ≡ some j → invalidSymbol s (symbolAt d gap h j) o ≡ some r → (walkFrom f o ≡ some r) × (keptFrom f o ≡ [])
+    walk-at-refused j r q e = (
+      met j q ∙ rw e,
+      kept-refused (byteOrder (h .order)) (tab (sectionIn d gap h) (h .sections)) (symbolIn d gap h) (h .symbols) sec f o j r q (stop-by-record o j ∙ e),
+    )
+
+    pub walk-at-met : (j : ℕ) → numberFrom o ≡ some j → invalidSymbol s (symbolAt d gap h j) o ≡ none
+        → (walkFrom f o ≡ walkFrom (f - 1) (o + symbolAt d gap h j .size)) × (keptFrom f o ≡ j ∷ keptFrom (f - 1) (o + symbolAt d gap h j .size))
+    walk-at-met j q e = (
+      met j q ∙ rw e,
+      ap (λ g. keptFrom g o) fuelled
+          ∙ kept-met (byteOrder (h .order)) (tab (sectionIn d gap h) (h .sections)) (symbolIn d gap h) (h .symbols) sec (f - 1) o j before-end q (stop-by-record o j ∙ e)
+          ∙ rw (size-by-record j),
+    )
+
+  -- what the walk answers and leaves in the lent numbers
+  pub record Walked (t : List ℕ) (w : ℕ) (r : ParsedText) (out : List ℕ) : Type 0 where
+    pub answer : r ≡ parsedText (walkFrom (s .bytes .length) 0) (w + length (keptFrom (s .bytes .length) 0))
+    pub numbers : out ≡ laid t w (keptFrom (s .bytes .length) 0)
+
+  -- ---- the whole section
+
+  unfoldable pub functionNumbers : List ℕ
+  functionNumbers = textNumbers (byteOrder (h .order)) (tab (sectionIn d gap h) (h .sections)) (symbolIn d gap h) (h .symbols) sec
+
+  -- of an accepted section they are those of its walk
+  pub numbers-of-walk : textRefusal (objectIn d gap h) sec ≡ none
+      → functionNumbers ≡ walkNumbers (byteOrder (h .order)) (tab (sectionIn d gap h) (h .sections)) (symbolIn d gap h) (h .symbols) sec (length (sec .bytes)) 0
+  unfolding functionNumbers objectIn
+  numbers-of-walk e = numbers-accepted (byteOrder (h .order)) (tab (sectionIn d gap h) (h .sections)) (symbolIn d gap h) (h .symbols) sec e
+
+  abbrev least : Option ℕ
+  least = leastAgain (addressIn d gap h) (textIn d gap h sec)
+
+  refusal-is : textRefusal (objectIn d gap h) sec
+      ≡ orElse (maybe least none (λ j. some (refusal 11 (s .index) (symbolAt d gap h j .index)))) (walkFrom (s .bytes .length) 0)
+  unfolding objectIn sectionFrom symbolFrom
+  refusal-is =
+      text-by-walk (byteOrder (h .order)) (tab (sectionIn d gap h) (h .sections)) (symbolIn d gap h) (h .symbols) sec ∙ rw length-bytes
+
+  numbers-are : functionNumbers ≡ maybe least (keptFrom (s .bytes .length) 0) (λ j. [])
+  unfolding functionNumbers
+  numbers-are = numbers-by-walk (byteOrder (h .order)) (tab (sectionIn d gap h) (h .sections)) (symbolIn d gap h) (h .symbols) sec ∙ rw data-length
+
+  -- what parsing a section answers and leaves in the lent numbers
+  pub record Parsed (t : List ℕ) (w : ℕ) (r : ParsedText) (out : List ℕ) : Type 0 where
+    pub answer : r ≡ parsedText (textRefusal (objectIn d gap h) sec) (w + length functionNumbers)
+    pub numbers : out ≡ laid t w functionNumbers
+
+  module _ (order : List ℕ) (lo hi : ℕ) (e : textGroup d gap h order lo hi ≡ textIn d gap h sec) where
+    -- 11
+    pub parsed-conflict : (c : Conflict) (t : List ℕ) (w j : ℕ) → c ≡ conflictOf (leastAgain (addressIn d gap h) (textGroup d gap h order lo hi)) → c ≡ Conflict.At j
+        → Parsed t w (ParsedText.Refused (refusal 11 (s .index) (symbolAt d gap h j .index))) t
+    parsed-conflict c t w j p q =
+        let f : least ≡ some j = at-number least j (rw e at (sym p ∙ q)) in
+        let r : textRefusal (objectIn d gap h) sec ≡ some (refusal 11 (s .index) (symbolAt d gap h j .index)) = refusal-is ∙ rw f in
+        let m : functionNumbers ≡ [] = numbers-are ∙ rw f in
+        record { answer = rw r; numbers = rw (m, add-zero) (sym (take-append-drop w t)) }
+
+    -- the walk
+    pub parsed-walk : (c : Conflict) (t : List ℕ) (w : ℕ) (r : ParsedText) (out : List ℕ)
+        → c ≡ conflictOf (leastAgain (addressIn d gap h) (textGroup d gap h order lo hi)) → c ≡ Conflict.Nothing → Walked t w r out → Parsed t w r out
+    parsed-walk c t w r out p q g =
+        let f : least ≡ none = no-number least (rw e at (sym p ∙ q)) in
+        let a : textRefusal (objectIn d gap h) sec ≡ walkFrom (s .bytes .length) 0 = refusal-is ∙ rw f in
+        let m : functionNumbers ≡ keptFrom (s .bytes .length) 0 = numbers-are ∙ rw f in
+        record { answer = rw (a, m) (g .answer); numbers = rw m (g .numbers) }
