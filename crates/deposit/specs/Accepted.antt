@@ -1,12 +1,12 @@
 -- What is known of a deposit that is opened: its limits, the rules of each record, and the object that it states, each part by its place.
-use mathlib.Core.Path.{_≡_, refl, sym, ap, ap₂, subst, _∙_}
+use mathlib.Core.Path.{_≡_, refl, sym, ap, _∙_}
 use mathlib.Core.Bool.{Bool, true, false, cond, _&&_, not, and-eq-true-iff}
 use mathlib.Core.List.{List, [], _∷_, map}
 use mathlib.Core.Option.{Option, none, some}
-use Prim.Native.Nat.{ℕ, zero, suc, _+_, _-_, _*_, _/_, _%_, _<_, _≤_}
+use Prim.Native.Nat.{ℕ, zero, suc, _+_, _%_, _<_, _≤_}
 use native.Mathlib.Nat.{not-suc-le-zero, le-of-suc-le-suc, le-trans, lt-trans}
 use native.Mathlib.Omega.{arith}
-use borrow.Author.Tests.{leb-true, ltb-true, eqb-true, eqb-false, not-true}
+use borrow.Author.Tests.{leb-true, ltb-true, eqb-false, not-true}
 use lib.Dec.{eqb, leb, ltb}
 use lib.ListN.{length, getD, take, drop}
 use Rattle.lists.specs.Tab.{tab, tab-ext, getD-tab, length-tab}
@@ -17,18 +17,18 @@ use Rattle.model.specs.declared.Refusal.{Refusal}
 use Rattle.model.specs.declared.SectionRecord.{SectionRecord}
 use Rattle.model.specs.declared.SymbolRecord.{SymbolRecord}
 use Rattle.model.specs.declared.RelocationRecord.{RelocationRecord}
-use Rattle.model.specs.Bytes.{part, maybe}
+use Rattle.model.specs.Bytes.{maybe}
 use Rattle.model.specs.Object.{Reloc, Section, Symbol, Object}
 use Rattle.model.specs.Deposit.{mostBytes, frameOk, streamOf, headOf, Stream, partsFrom, partsOf, endOf, all, headOk, within, cutOut, relocationOk, unlessNone, relocOf, sectionOf, symbolKind, symbolOf, byteOrder, statedBy, objectOf, hasBtf, depositRefusal}
-use Rattle.stream.specs.Stream.{place, byteAt, bytesAt}
-use Rattle.stream.specs.Laws.{part-bytes, place-mono, getD-bytes}
+use Rattle.stream.specs.Stream.{place, bytesAt}
+use Rattle.stream.specs.Laws.{part-bytes, place-mono}
 use Rattle.stream.specs.Framed.{stream-inside}
 use Rattle.records.specs.Records.{namesAt, dataAt, headAt, sectionAt, symbolAt, relocationAt}
 use Rattle.rules.specs.Parts.{head-stream, parts-sections, parts-symbols, parts-relocations, parts-bytes}
 use Rattle.rules.specs.Rules.{ruled, nameByte, nameAt, nameOkAt, sectionOkAt, symbolOkAt, sectionsOk, symbolsOk, relocationsOk, restOk, recordsOkAt, someBtf, ruled-all, name-cut}
 use Rattle.rules.specs.declared.Checked.{Checked}
 use Rattle.deposit.specs.declared.Opened.{Opened}
-use Rattle.deposit.specs.Open.{openedOf, goesBack, streamLength, streamOkAt, checkedStream, Framed, framed, btf, answerOf, opened-1, opened-checked}
+use Rattle.deposit.specs.Open.{openedOf, streamLength, streamOkAt, checkedStream, Framed, framed, btf, answerOf, opened-1, opened-checked}
 
 -- ---- the object's parts, by their places
 

@@ -1,19 +1,18 @@
 -- 'Why a deposit goes back', numbers 1 to 3: what opening a deposit answers, and the same by places.
-use mathlib.Core.Path.{_≡_, refl, sym, ap, ap₂, _∙_}
+use mathlib.Core.Path.{_≡_, refl, ap, _∙_}
 use mathlib.Core.Bool.{Bool, true, false, cond, _&&_, not, and-assoc, and-eq-true-iff}
 use mathlib.Core.List.{List}
-use Prim.Native.Nat.{ℕ, _+_, _-_, _*_, _/_, _%_, _<_, _≤_}
+use Prim.Native.Nat.{ℕ, _+_, _*_, _/_, _%_, _≤_}
 use native.Mathlib.Omega.{arith}
-use borrow.Author.Tests.{leb-true, ltb-true, eqb-true, eqb-false, not-true}
+use borrow.Author.Tests.{leb-true, eqb-true, eqb-false, not-true}
 use lib.Dec.{eqb, leb, ltb}
 use lib.ListN.{length}
 use Rattle.model.specs.declared.Head.{Head}
 use Rattle.model.specs.declared.Refusal.{Refusal}
 use Rattle.model.specs.Bytes.{maybe, orElse}
 use Rattle.model.specs.Refusals.{noSection, noSymbol}
-use Rattle.model.specs.Deposit.{mostBytes, checksOk, frameOk, streamOf, headOf, partsFrom, partsOf, endOf, headOk, lengthOk, recordsOk, streamRules, streamOk, objectOf, statedBy, hasBtf, ofDeposit, depositRefusal}
-use Rattle.stream.specs.Stream.{place}
-use Rattle.stream.specs.Framed.{length-stream, stream-inside}
+use Rattle.model.specs.Deposit.{mostBytes, checksOk, frameOk, streamOf, headOf, partsFrom, partsOf, endOf, headOk, lengthOk, recordsOk, streamRules, streamOk, objectOf, hasBtf, ofDeposit, depositRefusal}
+use Rattle.stream.specs.Framed.{length-stream}
 use Rattle.records.specs.Records.{headAt}
 use Rattle.rules.specs.Parts.{head-stream}
 use Rattle.rules.specs.Rules.{sectionsOk, symbolsOk, relocationsOk, restOk, recordsOkAt, someBtf, records-ok, btf-is}

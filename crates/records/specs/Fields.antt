@@ -1,18 +1,14 @@
 -- The fields of head and records, each a number at its own place.
-use mathlib.Core.Path.{_≡_, refl, sym, ap, ap₂, _∙_}
+use mathlib.Core.Path.{_≡_, sym, ap, ap₂, _∙_}
 use mathlib.Core.List.{List}
-use Prim.Native.Nat.{ℕ, suc, _+_, _*_, _/_, _%_, _<_, _≤_}
+use Prim.Native.Nat.{ℕ, suc, _+_, _/_, _%_, _<_, _≤_}
 use native.Mathlib.Omega.{arith}
 use lib.ListN.{getD}
-use Rattle.model.specs.declared.Head.{Head}
-use Rattle.model.specs.declared.SectionRecord.{SectionRecord}
-use Rattle.model.specs.declared.SymbolRecord.{SymbolRecord}
-use Rattle.model.specs.declared.RelocationRecord.{RelocationRecord}
 use Rattle.model.specs.Bytes.{part, little}
 use Rattle.model.specs.Deposit.{headOf, extent, sectionRecord, symbolRecord, relocationRecord}
 use Rattle.stream.specs.Stream.{byteAt, bytesAt}
 use Rattle.stream.specs.Laws.{getD-bytes, part-bytes}
-use Rattle.stream.specs.Fields.{little-first, little-split}
+use Rattle.stream.specs.Fields.{little-first}
 use Rattle.records.specs.Records.{extentAt}
 
 module _ (d : List ℕ) (gap p : ℕ) where

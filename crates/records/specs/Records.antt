@@ -1,5 +1,5 @@
 -- Head and records by their places in the stream, and the walk over record numbers.
-use mathlib.Core.Path.{_≡_, refl, sym, ap, _∙_}
+use mathlib.Core.Path.{_≡_, refl}
 use mathlib.Core.Bool.{Bool, true, false, cond}
 use mathlib.Core.List.{List}
 use Prim.Native.Nat.{ℕ, _+_, _*_, _<_, _≤_}
@@ -14,7 +14,6 @@ use Rattle.model.specs.declared.RelocationRecord.{RelocationRecord}
 use Rattle.model.specs.Bytes.{little}
 use Rattle.model.specs.Deposit.{headOf, extent, sectionRecord, symbolRecord, relocationRecord}
 use Rattle.stream.specs.Stream.{bytesAt}
-use Rattle.stream.specs.Laws.{part-bytes}
 use Rattle.records.specs.declared.Cursor.{Cursor}
 use Rattle.records.specs.declared.Step.{Step}
 

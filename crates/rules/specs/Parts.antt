@@ -1,20 +1,19 @@
 -- The parts of a deposit's stream by their places: what `partsFrom` cuts out of it one after the other.
 use mathlib.Core.Path.{_≡_, refl, sym, ap, _∙_}
-use mathlib.Core.List.{List, [], _∷_}
+use mathlib.Core.List.{List, []}
 use Prim.Native.Nat.{ℕ, zero, suc, _+_, _-_, _*_, _/_, _%_, _<_, _≤_}
 use native.Mathlib.Nat.{not-suc-le-zero, le-of-suc-le-suc, mul-zero, mul-suc, mul-le-mul-left}
 use native.Mathlib.Omega.{arith}
 use lib.ListN.{length, getD, take, drop}
 use lib.Seq.{drop-drop}
-use Rattle.lists.specs.Tab.{tab, tab-ext, is-tab}
+use Rattle.lists.specs.Tab.{tab, is-tab}
 use Rattle.model.specs.declared.Head.{Head}
 use Rattle.model.specs.Bytes.{part, little, records}
-use Rattle.model.specs.Deposit.{streamOf, headOf, sectionRecord, symbolRecord, relocationRecord, Stream, partsFrom, endOf}
+use Rattle.model.specs.Deposit.{streamOf, headOf, sectionRecord, symbolRecord, relocationRecord, partsFrom, endOf}
 use Rattle.stream.specs.Stream.{bytesAt}
 use Rattle.stream.specs.Laws.{take-bytes, drop-bytes, part-bytes}
 use Rattle.stream.specs.Framed.{part-stream, drop-stream}
 use Rattle.records.specs.Records.{symbolsAt, relocationsAt, namesAt, dataAt, headAt, sectionAt, symbolAt, relocationAt}
-use Rattle.records.specs.Fields.{head-fields}
 
 -- ---- records laid one after the other
 

@@ -1,11 +1,10 @@
 -- Number 2 by places: what each loop tests, and that together they are the rules of the model.
 use mathlib.Core.Path.{_≡_, refl, sym, ap, ap₂, fun-ext, _∙_}
 use mathlib.Core.Bool.{Bool, true, false, cond, _&&_, _||_, not, and-assoc, and-comm, and-eq-true-iff}
-use mathlib.Core.List.{List, [], _∷_, _++_, map}
-use mathlib.Core.Option.{Option, none, some}
-use Prim.Native.Nat.{ℕ, zero, suc, _+_, _-_, _*_, _/_, _%_, _<_, _≤_}
-use native.Mathlib.Omega.{arith}
-use borrow.Author.Tests.{leb-true, le-leb}
+use mathlib.Core.List.{List, [], _∷_, map}
+use mathlib.Core.Option.{none, some}
+use Prim.Native.Nat.{ℕ, _+_, _-_, _*_, _/_, _%_, _≤_}
+use borrow.Author.Tests.{leb-true}
 use lib.Dec.{eqb, leb, ltb}
 use lib.ListN.{length}
 use Rattle.lists.specs.Tab.{tab}
@@ -13,13 +12,12 @@ use Rattle.model.specs.declared.Extent.{Extent}
 use Rattle.model.specs.declared.Head.{Head}
 use Rattle.model.specs.declared.SectionRecord.{SectionRecord}
 use Rattle.model.specs.declared.SymbolRecord.{SymbolRecord}
-use Rattle.model.specs.Bytes.{ascii, same, isSome, firstIn, find, orElse, part}
-use Rattle.model.specs.Deposit.{mostBytes, streamOf, headOf, Stream, partsFrom, partsOf, endOf, all, allZero, headOk, lengthOk, within, cutOut, nameOk, sectionOk, symbolOk, relocationOk, risingFrom, recordsOk, streamRules, streamOk, sectionOf, statedBy, objectOf, hasBtf}
+use Rattle.model.specs.Bytes.{ascii, same, isSome, firstIn, find, orElse}
+use Rattle.model.specs.Deposit.{mostBytes, streamOf, Stream, partsFrom, endOf, all, allZero, within, cutOut, nameOk, sectionOk, symbolOk, relocationOk, risingFrom, recordsOk, sectionOf, statedBy, hasBtf}
 use Rattle.stream.specs.Stream.{bytesAt}
 use Rattle.stream.specs.Laws.{part-bytes}
-use Rattle.stream.specs.Framed.{length-stream}
-use Rattle.records.specs.Records.{namesAt, dataAt, headAt, sectionAt, symbolAt, relocationAt}
-use Rattle.rules.specs.Parts.{head-stream, parts-sections, parts-symbols, parts-relocations, parts-names, parts-rest}
+use Rattle.records.specs.Records.{namesAt, sectionAt, symbolAt, relocationAt}
+use Rattle.rules.specs.Parts.{parts-sections, parts-symbols, parts-relocations, parts-names, parts-rest}
 
 -- ---- a walk over records whose indexes rise
 
