@@ -2,3 +2,5 @@
 pub mod Keys
 pub mod Fields
 pub mod Compared
+pub mod Words
+pub mod Runs

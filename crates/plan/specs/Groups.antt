@@ -1,16 +1,16 @@
 -- A group of record numbers, the part of a list from one index to another: loops over it that look for a first answer, or that collect.
-use mathlib.Core.Path.{_≡_, refl, sym, ap, _∙_}
+use mathlib.Core.Path.{_≡_, refl, ap, _∙_}
 use mathlib.Core.Bool.{Bool, true, false, cond}
 use mathlib.Core.List.{List, [], _∷_, _++_, map, append-nil}
 use mathlib.Core.Option.{Option, none, some}
 use Prim.Native.Nat.{ℕ, zero, suc, _+_, _-_, _<_, _≤_}
 use native.Mathlib.Nat.{not-suc-le-zero, le-of-suc-le-suc}
 use native.Mathlib.Omega.{arith}
-use lib.ListN.{length, getD, take, drop, set, length-append, length-drop}
-use lib.Seq.{slice, length-slice, length-take-le, getD-take, getD-drop}
+use lib.ListN.{length, getD, take, drop, set, length-append}
+use lib.Seq.{slice, length-slice, getD-take, getD-drop}
+use Rattle.lists.specs.Tab.{tab}
 use Rattle.lists.specs.Slice.{slice-next, slice-none, slice-more, put-next, put-none}
 use Rattle.model.specs.Bytes.{push, keep, firstIn, orElse}
-use Rattle.lists.specs.Tab.{tab}
 use Rattle.plan.specs.Numbers.{upTo, keep-append, map-append}
 use Rattle.plan.specs.SectionsPrograms.{All, all-kept}
 use Rattle.plan.specs.FunctionsMaps.{all-append}
@@ -45,15 +45,6 @@ first-kept f at p (j ∷ l) = go (p j) (first-kept f at p l)
 
 -- ---- those that pass a test, collected
 
-pub length-keep : {A : Type 0} (p : A → Bool) (l : List A) → length (keep p l) ≤ length l
-unfolding keep
-length-keep p [] = omega arith
-length-keep p (x ∷ l) = go (p x) (length-keep p l)
-  where
-    go : (b : Bool) → length (keep p l) ≤ length l → length (push b x (keep p l)) ≤ suc (length l)
-    go true h = omega arith
-    go false h = omega arith
-
 module _ (f i : ℕ) (l : List ℕ) (from : f ≤ i) (inside : i < length l) where
   module _ (p : ℕ → Bool) where
     pub keep-in : p (getD l i 0) ≡ true → keep p (slice f (i + 1) l) ≡ keep p (slice f i l) ++ (getD l i 0 ∷ [])
@@ -63,10 +54,6 @@ module _ (f i : ℕ) (l : List ℕ) (from : f ≤ i) (inside : i < length l) whe
     pub keep-out : p (getD l i 0) ≡ false → keep p (slice f (i + 1) l) ≡ keep p (slice f i l)
     unfolding keep
     keep-out e = rw (slice-more f i l 0 from inside, keep-append p (slice f i l) (getD l i 0 ∷ []), e, append-nil)
-
-    -- there are no more of them than indexes passed
-    pub keep-room : length (keep p (slice f i l)) ≤ i - f
-    keep-room = let k : i ≤ length l = omega arith in omega (arith, length-keep p (slice f i l), length-slice f i l k)
 
   -- an answer for each
   pub map-in : (g : ℕ → ℕ) → map g (slice f (i + 1) l) ≡ map g (slice f i l) ++ (g (getD l i 0) ∷ [])
@@ -88,11 +75,6 @@ pub laid-none : (w : ℕ) (xs t : List ℕ) → xs ≡ [] → Laid w w xs t t
 laid-none w xs t e = record { count = rw e (omega arith); held = rw e (put-none w t) }
 
 module _ {w n : ℕ} {xs t out : List ℕ} (a : Laid w n xs t out) where
-  pub laid-length : n ≤ length t → length out ≡ length t
-  laid-length h =
-      let e : w + length xs ≡ n = sym (a .count) in
-      ap length (a .held) ∙ rw (length-append, length-append, length-drop, length-take-le w t (omega arith)) (omega arith)
-
   pub laid-next : (v : ℕ) (ys : List ℕ) → n < length t → ys ≡ xs ++ (v ∷ []) → Laid w (n + 1) ys t (set out n v)
   laid-next v ys h e =
       record {

@@ -1,18 +1,33 @@
-// `ProgramSection::from_str`: the names are one table, and a name's two first pieces are looked for in it row by row.
+// `ProgramSection::from_str`, and the numbers of what it answers: the names are one table, and a name's two first pieces are looked for in it row by row.
 ghost use mathlib.Core.Path.{_≡_};
 ghost use mathlib.Core.Bool.{false};
 ghost use Prim.Native.Nat.{_+_, _<_, _≤_, _^_, min};
 ghost use lib.ListN.{length};
 ghost use Rattle.model.specs.Bytes.{same, firstIn};
-ghost use Rattle.model.specs.ProgramName.{readings, fits, fromStr};
+ghost use Rattle.model.specs.ProgramName.{readings, fits, programOf, fromStr};
 ghost use Rattle.stream.specs.Stream.{bytesAt};
 ghost use Rattle.program_section.specs.Pieces.{until, piece};
+ghost use Rattle.program_section.specs.Found.{rowVariant, foundOf, Tells, variantIn};
 ghost use Rattle.program_section.specs.Rows.{secondOf, scan, letters};
-ghost use Rattle.program_section.specs.Short.{parsed, rowGives};
+ghost use Rattle.program_section.specs.Short.{rowGives};
 
 pub mod numbers;
 
 use model::ParsedProgramSection;
+use stream::wide64;
+
+// A program's variant and its two values, as its row in an image has them.
+pub struct Variant {
+    pub number: u64,
+    pub first: u64,
+    pub second: u64,
+}
+
+// What the table has for a name.
+enum Found {
+    Program(Variant),
+    Nothing,
+}
 
 // The words that the rows ask for, in the rows' order: the first piece, unless it is that of the row above, then the second.
 const WORDS: [u8; 581] = *b"\
@@ -206,10 +221,20 @@ fn size(x: u32) -> usize
     x as usize
 }
 
+fn row_variant(row: u32) -> Variant
+    ensures { λ r. ⌜ r ≡ rowVariant row ⌝ }
+{
+    Variant {
+        number: wide64(row / 0x100 % 256),
+        first: wide64(row / 16 % 16),
+        second: wide64(row % 16),
+    }
+}
+
 // What the first row that fits the two pieces gives.
-fn find(words: &[u8], rows: &[u32], first: &[u8], more: bool, second: &[u8]) -> ParsedProgramSection
+fn find(words: &[u8], rows: &[u32], first: &[u8], more: bool, second: &[u8]) -> Found
     requires { ⌜ letters (now rows) ≤ length (now words) ⌝ }
-    ensures { λ r. ⌜ r ≡ parsed (scan (now (words .entry)) (now (first .entry)) (piece more (now (second .entry))) 0 false (now (rows .entry))) ⌝ }
+    ensures { λ r. ⌜ r ≡ foundOf (scan (now (words .entry)) (now (first .entry)) (piece more (now (second .entry))) 0 false (now (rows .entry))) ⌝ }
 {
     let mut hit = false;
     let mut w: usize = 0;
@@ -224,22 +249,18 @@ fn find(words: &[u8], rows: &[u32], first: &[u8], more: bool, second: &[u8]) -> 
         let n = e + size(r / 0x10000 % 16);
         if hit {
             if fits(r / 0x100000 % 16, &words[e..n], more, second) {
-                return ParsedProgramSection::Section(numbers::program(
-                    r / 0x100 % 256,
-                    r / 16 % 16,
-                    r % 16,
-                ));
+                return Found::Program(row_variant(r));
             }
         }
         w = n;
         i += 1;
     }
-    ParsedProgramSection::InvalidProgramSection
+    Found::Nothing
 }
 
 // What the table gives for the two pieces; without `more` there is no second.
-fn look_up(first: &[u8], more: bool, second: &[u8]) -> ParsedProgramSection
-    ensures { λ r. ⌜ r ≡ parsed (firstIn (rowGives (now (first .entry)) (piece more (now (second .entry)))) readings) ⌝ }
+fn look_up(first: &[u8], more: bool, second: &[u8]) -> Found
+    ensures { λ r. ⌜ Tells r (firstIn (rowGives (now (first .entry)) (piece more (now (second .entry)))) readings) ⌝ }
 {
     find(&WORDS, &ROWS, first, more, second)
 }
@@ -251,8 +272,8 @@ fn smaller(x: usize, y: usize) -> usize
 }
 
 // A name that lies in a slice.
-fn from_bytes(name: &[u8]) -> ParsedProgramSection
-    ensures { λ r. ⌜ r ≡ fromStr (now (name .entry)) ⌝ }
+fn from_bytes(name: &[u8]) -> Found
+    ensures { λ r. ⌜ Tells r (programOf (now (name .entry))) ⌝ }
 {
     let a = until(name);
     let behind = smaller(a + 1, name.len());
@@ -272,13 +293,41 @@ fn copy_bytes(d: &[u8], gap: usize, at: usize, t: &mut [u8])
     }
 }
 
-// The program section that the name of n bytes at `at` of the stream stands for. No word of the table has 20 letters, so 40 bytes decide.
-pub fn from_str(d: &[u8], gap: usize, at: usize, n: usize) -> ParsedProgramSection
+// What the table has for the name of n bytes at `at` of the stream. No word of the table has 20 letters, so 40 bytes decide.
+fn find_name(d: &[u8], gap: usize, at: usize, n: usize) -> Found
     requires { ⌜ (gap ≤ 4) × (at + n < 2 ^ 63) ⌝ }
-    ensures { λ r. ⌜ r ≡ fromStr (bytesAt (now (d .entry)) gap at n) ⌝ }
+    ensures { λ r. ⌜ Tells r (programOf (bytesAt (now (d .entry)) gap at n)) ⌝ }
 {
     let m = smaller(40, n);
     let mut name = [0u8; 40];
     copy_bytes(d, gap, at, &mut name[0..m]);
     from_bytes(&name[0..m])
+}
+
+// The program section that a name stands for.
+pub fn from_str(d: &[u8], gap: usize, at: usize, n: usize) -> ParsedProgramSection
+    requires { ⌜ (gap ≤ 4) × (at + n < 2 ^ 63) ⌝ }
+    ensures { λ r. ⌜ r ≡ fromStr (bytesAt (now (d .entry)) gap at n) ⌝ }
+{
+    match find_name(d, gap, at, n) {
+        Found::Program(v) => {
+            ParsedProgramSection::Section(numbers::program(v.number, v.first, v.second))
+        }
+        Found::Nothing => ParsedProgramSection::InvalidProgramSection,
+    }
+}
+
+// The numbers of that program section; those of `kprobe` where a name stands for none.
+pub fn variant_numbers(d: &[u8], gap: usize, at: usize, n: usize) -> Variant
+    requires { ⌜ (gap ≤ 4) × (at + n < 2 ^ 63) ⌝ }
+    ensures { λ r. ⌜ r ≡ variantIn (bytesAt (now (d .entry)) gap at n) ⌝ }
+{
+    match find_name(d, gap, at, n) {
+        Found::Program(v) => v,
+        Found::Nothing => Variant {
+            number: 1,
+            first: 0,
+            second: 0,
+        },
+    }
 }

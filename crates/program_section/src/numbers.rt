@@ -13,7 +13,7 @@ use model::SkReuseportAttachType;
 use model::SkSkbKind;
 use model::XdpAttachType;
 
-fn xdp_attach_type(n: u32) -> XdpAttachType
+fn xdp_attach_type(n: u64) -> XdpAttachType
     ensures { λ r. ⌜ r ≡ getD (XdpAttachType.Interface ∷ XdpAttachType.CpuMap ∷ XdpAttachType.DevMap ∷ []) n XdpAttachType.Interface ⌝ }
 {
     match n {
@@ -23,7 +23,7 @@ fn xdp_attach_type(n: u32) -> XdpAttachType
     }
 }
 
-fn sk_skb_kind(n: u32) -> SkSkbKind
+fn sk_skb_kind(n: u64) -> SkSkbKind
     ensures { λ r. ⌜ r ≡ getD (SkSkbKind.StreamParser ∷ SkSkbKind.StreamVerdict ∷ []) n SkSkbKind.StreamParser ⌝ }
 {
     match n {
@@ -32,7 +32,7 @@ fn sk_skb_kind(n: u32) -> SkSkbKind
     }
 }
 
-fn cgroup_skb_attach_type(n: u32) -> CgroupSkbAttachType
+fn cgroup_skb_attach_type(n: u64) -> CgroupSkbAttachType
     ensures { λ r. ⌜ r ≡ getD (CgroupSkbAttachType.Unspecified ∷ CgroupSkbAttachType.Ingress ∷ CgroupSkbAttachType.Egress ∷ []) n CgroupSkbAttachType.Unspecified ⌝ }
 {
     match n {
@@ -42,7 +42,7 @@ fn cgroup_skb_attach_type(n: u32) -> CgroupSkbAttachType
     }
 }
 
-fn cgroup_sock_addr_attach_type(n: u32) -> CgroupSockAddrAttachType
+fn cgroup_sock_addr_attach_type(n: u64) -> CgroupSockAddrAttachType
     ensures { λ r. ⌜ r ≡ getD (CgroupSockAddrAttachType.Bind4 ∷ CgroupSockAddrAttachType.Bind6 ∷ CgroupSockAddrAttachType.Connect4 ∷ CgroupSockAddrAttachType.Connect6 ∷ CgroupSockAddrAttachType.GetPeerName4 ∷ CgroupSockAddrAttachType.GetPeerName6 ∷ CgroupSockAddrAttachType.GetSockName4 ∷ CgroupSockAddrAttachType.GetSockName6 ∷ CgroupSockAddrAttachType.UDPSendMsg4 ∷ CgroupSockAddrAttachType.UDPSendMsg6 ∷ CgroupSockAddrAttachType.UDPRecvMsg4 ∷ CgroupSockAddrAttachType.UDPRecvMsg6 ∷ []) n CgroupSockAddrAttachType.Bind4 ⌝ }
 {
     match n {
@@ -61,7 +61,7 @@ fn cgroup_sock_addr_attach_type(n: u32) -> CgroupSockAddrAttachType
     }
 }
 
-fn cgroup_sockopt_attach_type(n: u32) -> CgroupSockoptAttachType
+fn cgroup_sockopt_attach_type(n: u64) -> CgroupSockoptAttachType
     ensures { λ r. ⌜ r ≡ getD (CgroupSockoptAttachType.Get ∷ CgroupSockoptAttachType.Set ∷ []) n CgroupSockoptAttachType.Get ⌝ }
 {
     match n {
@@ -70,7 +70,7 @@ fn cgroup_sockopt_attach_type(n: u32) -> CgroupSockoptAttachType
     }
 }
 
-fn sk_reuseport_attach_type(n: u32) -> SkReuseportAttachType
+fn sk_reuseport_attach_type(n: u64) -> SkReuseportAttachType
     ensures { λ r. ⌜ r ≡ getD (SkReuseportAttachType.Select ∷ SkReuseportAttachType.SelectOrMigrate ∷ []) n SkReuseportAttachType.Select ⌝ }
 {
     match n {
@@ -79,7 +79,7 @@ fn sk_reuseport_attach_type(n: u32) -> SkReuseportAttachType
     }
 }
 
-fn cgroup_sock_attach_type(n: u32) -> CgroupSockAttachType
+fn cgroup_sock_attach_type(n: u64) -> CgroupSockAttachType
     ensures { λ r. ⌜ r ≡ getD (CgroupSockAttachType.PostBind4 ∷ CgroupSockAttachType.PostBind6 ∷ CgroupSockAttachType.SockCreate ∷ CgroupSockAttachType.SockRelease ∷ []) n CgroupSockAttachType.PostBind4 ⌝ }
 {
     match n {
@@ -91,7 +91,7 @@ fn cgroup_sock_attach_type(n: u32) -> CgroupSockAttachType
 }
 
 // The program of the variant n with the values a and b.
-pub fn program(n: u32, a: u32, b: u32) -> ProgramSection
+pub fn program(n: u64, a: u64, b: u64) -> ProgramSection
     ensures { λ r. ⌜ r ≡ programFrom n a b ⌝ }
 {
     match n {

@@ -1,9 +1,9 @@
--- Numbers 10 and 15 of a program's symbol by the records, and what refuses a section in their order.
-use mathlib.Core.Path.{_≡_, refl, sym, ap, _∙_}
+-- Numbers 10 and 15 of a program's symbol by the records; symbols that are no programs are not looked at.
+use mathlib.Core.Path.{_≡_, refl, _∙_}
 use mathlib.Core.Bool.{Bool, true, false, cond, _||_}
-use mathlib.Core.List.{List, [], _∷_, map}
+use mathlib.Core.List.{List}
 use mathlib.Core.Option.{Option, none, some}
-use Prim.Native.Nat.{ℕ, zero, suc, _+_, _-_, _<_, _≤_}
+use Prim.Native.Nat.{ℕ, _+_, _<_, _≤_}
 use native.Mathlib.Omega.{arith}
 use borrow.Author.Tests.{lt-ltb, le-ltb}
 use lib.Dec.{ltb}
@@ -36,7 +36,7 @@ program-by-fault d gap h s y =
     go false true = refl
     go false false = refl
 
--- ---- 10, by the tests that are made
+-- ---- by the tests that are made
 
 module _ (s : SectionRecord) (y : SymbolRecord) where
   pub fault-below : y .address < s .address → programFault s y ≡ 10
@@ -67,7 +67,7 @@ module _ (s : SectionRecord) (y : SymbolRecord) where
     pub fault-none : invalidProgramCode (y .size) ≡ false → programFault s y ≡ 0
     fault-none e = fault-fits ∙ rw e
 
--- ---- what a symbol of the section is refused for, programs alone looked at
+-- ---- what a symbol of the section is refused for
 
 module _ (d : List ℕ) (gap : ℕ) (h : Head) (s : SectionRecord) where
   abbrev pub refusalBy : SymbolRecord → Option Refusal

@@ -1,13 +1,11 @@
 -- A search that only moves forward: among numbers that climb in address, those behind the place it stands at lie below every address still looked for.
-use mathlib.Core.Path.{_≡_, refl, sym, _∙_}
-use mathlib.Core.Bool.{Bool, true, false, cond}
+use mathlib.Core.Path.{_≡_, refl, _∙_}
 use mathlib.Core.List.{List, [], _∷_}
-use mathlib.Core.Option.{Option, none, some}
-use Prim.Native.Nat.{ℕ, suc, _<_, _≤_}
+use mathlib.Core.Option.{none, some}
+use Prim.Native.Nat.{ℕ, _<_, _≤_}
 use native.Mathlib.Omega.{arith}
 use borrow.Author.Tests.{eq-eqb, ne-eqb}
-use lib.Dec.{eqb}
-use Rattle.model.specs.Bytes.{firstIn, find, orElse}
+use Rattle.model.specs.Bytes.{firstIn, find}
 use Rattle.plan.specs.Shared.{Climbs, firstAt, none-below}
 
 module _ (addr : ℕ → ℕ) where
@@ -23,9 +21,6 @@ module _ (addr : ℕ → ℕ) where
 
     pub ahead-start : (a : ℕ) → Climbs addr 0 all → Ahead a all
     ahead-start a c = record { climbs = c; found = λ x h. refl }
-
-    pub ahead-up : (a b : ℕ) (l : List ℕ) → a ≤ b → Ahead a l → Ahead b l
-    ahead-up a b l h g = record { climbs = g .climbs; found = λ x k. g .found x (omega arith) }
 
     apart : (j x : ℕ) (l : List ℕ) → (addr j ≡ x → ⊥) → firstAt addr x (j ∷ l) ≡ firstAt addr x l
     unfolding find firstIn

@@ -1,8 +1,8 @@
 -- The defined text symbols of a part of a list of symbol numbers.
-use mathlib.Core.Path.{_≡_, refl, sym, ap, _∙_}
-use mathlib.Core.Bool.{Bool, true, false}
+use mathlib.Core.Path.{_≡_, _∙_}
+use mathlib.Core.Bool.{true, false}
 use mathlib.Core.List.{List, [], _∷_}
-use Prim.Native.Nat.{ℕ, suc, _+_, _<_, _≤_}
+use Prim.Native.Nat.{ℕ, _+_, _<_, _≤_}
 use native.Mathlib.Omega.{arith}
 use native.Mathlib.Numerals.{add-one}
 use lib.ListN.{length, getD}
@@ -10,7 +10,7 @@ use lib.Seq.{slice, slice-empty, slice-cons}
 use Rattle.lists.specs.Tab.{tab}
 use Rattle.model.specs.declared.Head.{Head}
 use Rattle.model.specs.Bytes.{push, keep}
-use Rattle.model.specs.Object.{Section, Symbol}
+use Rattle.model.specs.Object.{Section}
 use Rattle.model.specs.Deposit.{byteOrder}
 use Rattle.plan.specs.ByNumber.{isDefinedText, textOrder}
 use Rattle.view.specs.View.{symbolIn, sectionIn}

@@ -1,6 +1,5 @@
 -- What parsing a text section answers, by the records of a deposit.
 use mathlib.Core.Path.{_≡_, refl, sym, ap, _∙_}
-use mathlib.Core.Bool.{Bool, true, false}
 use mathlib.Core.List.{List, [], _∷_, _++_}
 use mathlib.Core.Option.{Option, none, some}
 use Prim.Native.Nat.{ℕ, suc, _+_, _-_, _<_, _≤_}
@@ -10,6 +9,7 @@ use borrow.Author.Tests.{lt-leb, le-leb}
 use lib.Dec.{eqb, ltb}
 use lib.ListN.{length, take, drop, take-append-drop}
 use Rattle.lists.specs.Tab.{tab}
+use Rattle.model.specs.declared.Endianness.{Endianness}
 use Rattle.model.specs.declared.SectionIndex.{SectionIndex}
 use Rattle.model.specs.declared.SymbolIndex.{SymbolIndex}
 use Rattle.model.specs.declared.Head.{Head}
@@ -17,12 +17,12 @@ use Rattle.model.specs.declared.SectionRecord.{SectionRecord}
 use Rattle.model.specs.declared.SymbolRecord.{SymbolRecord}
 use Rattle.model.specs.declared.Refusal.{Refusal}
 use Rattle.model.specs.Bytes.{orElse, maybe}
-use Rattle.model.specs.Object.{Section, Symbol}
+use Rattle.model.specs.Object.{Section}
 use Rattle.model.specs.Symbols.{top}
 use Rattle.model.specs.Deposit.{byteOrder}
 use Rattle.model.specs.Instruction.{invalidProgramCode}
-use Rattle.model.specs.Refusals.{noSymbol, refuse, ofSection, stopRefusal, textRefusal}
-use Rattle.stream.specs.Stream.{bytesAt, length-bytes}
+use Rattle.model.specs.Refusals.{noSymbol, refuse, stopRefusal, textRefusal}
+use Rattle.stream.specs.Stream.{length-bytes}
 use Rattle.plan.specs.Shared.{firstAt, leastAgain}
 use Rattle.plan.specs.Walk.{numberIn, walkRefusal, walkNumbers, walk-end, walk-lost, walk-met}
 use Rattle.records.specs.Records.{dataAt, symbolAt}
@@ -69,15 +69,21 @@ module _ (d : List ℕ) (gap : ℕ) (h : Head) (s : SectionRecord) where
   abbrev sec : Section
   sec = sectionFrom d gap h s
 
+  abbrev endian : Endianness
+  endian = byteOrder (h .order)
+
+  abbrev sections : List Section
+  sections = tab (sectionIn d gap h) (h .sections)
+
   -- the walk from an offset on: what it is refused with, the numbers it keeps, and the one at the offset
   abbrev pub walkFrom : ℕ → ℕ → Option Refusal
-  walkFrom = walkRefusal (byteOrder (h .order)) (tab (sectionIn d gap h) (h .sections)) (symbolIn d gap h) (h .symbols) sec
+  walkFrom = walkRefusal endian sections (symbolIn d gap h) (h .symbols) sec
 
   abbrev pub keptFrom : ℕ → ℕ → List ℕ
-  keptFrom = keptNumbers (byteOrder (h .order)) (tab (sectionIn d gap h) (h .sections)) (symbolIn d gap h) (h .symbols) sec
+  keptFrom = keptNumbers endian sections (symbolIn d gap h) (h .symbols) sec
 
   abbrev pub numberFrom : ℕ → Option ℕ
-  numberFrom = numberIn (byteOrder (h .order)) (tab (sectionIn d gap h) (h .sections)) (symbolIn d gap h) (h .symbols) sec
+  numberFrom = numberIn endian sections (symbolIn d gap h) (h .symbols) sec
 
   data-length : length (sec .bytes) ≡ s .bytes .length
   unfolding sectionFrom
@@ -93,7 +99,7 @@ module _ (d : List ℕ) (gap : ℕ) (h : Head) (s : SectionRecord) where
   number-found o q l f = rw (le-leb (s .address + o) top l) f
 
   stop-by-record : (o j : ℕ)
-      → refusalAt (byteOrder (h .order)) (tab (sectionIn d gap h) (h .sections)) (symbolIn d gap h) (h .symbols) sec o j ≡ invalidSymbol s (symbolAt d gap h j) o
+      → refusalAt endian sections (symbolIn d gap h) (h .symbols) sec o j ≡ invalidSymbol s (symbolAt d gap h j) o
   unfolding sectionFrom symbolFrom stopRefusal invalidSymbol
   stop-by-record o j = rw length-bytes
 
@@ -105,8 +111,8 @@ module _ (d : List ℕ) (gap : ℕ) (h : Head) (s : SectionRecord) where
   pub walk-at-end : (f o : ℕ) → s .bytes .length ≤ o → (walkFrom f o ≡ none) × (keptFrom f o ≡ [])
   walk-at-end f o l =
       let p : length (sec .bytes) ≤ o = rw data-length l in (
-        walk-end (byteOrder (h .order)) (tab (sectionIn d gap h) (h .sections)) (symbolIn d gap h) (h .symbols) sec f o p,
-        kept-end (byteOrder (h .order)) (tab (sectionIn d gap h) (h .sections)) (symbolIn d gap h) (h .symbols) sec f o p,
+        walk-end endian sections (symbolIn d gap h) (h .symbols) sec f o p,
+        kept-end endian sections (symbolIn d gap h) (h .symbols) sec f o p,
       )
 
   module _ (f o : ℕ) (l : o < s .bytes .length) (m : 0 < f) where
@@ -119,20 +125,20 @@ module _ (d : List ℕ) (gap : ℕ) (h : Head) (s : SectionRecord) where
     pub walk-at-none : numberFrom o ≡ none → (walkFrom f o ≡ some (unknownSymbol s)) × (keptFrom f o ≡ [])
     unfolding sectionFrom
     walk-at-none q = (
-      ap (λ g. walkFrom g o) fuelled ∙ walk-lost (byteOrder (h .order)) (tab (sectionIn d gap h) (h .sections)) (symbolIn d gap h) (h .symbols) sec (f - 1) o before-end q,
-      kept-lost (byteOrder (h .order)) (tab (sectionIn d gap h) (h .sections)) (symbolIn d gap h) (h .symbols) sec f o q,
+      ap (λ g. walkFrom g o) fuelled ∙ walk-lost endian sections (symbolIn d gap h) (h .symbols) sec (f - 1) o before-end q,
+      kept-lost endian sections (symbolIn d gap h) (h .symbols) sec f o q,
     )
 
     met : (j : ℕ) → numberFrom o ≡ some j → walkFrom f o ≡ orElse (invalidSymbol s (symbolAt d gap h j) o) (walkFrom (f - 1) (o + symbolAt d gap h j .size))
     met j q =
         ap (λ g. walkFrom g o) fuelled
-        ∙ walk-met (byteOrder (h .order)) (tab (sectionIn d gap h) (h .sections)) (symbolIn d gap h) (h .symbols) sec (f - 1) o j before-end q
+        ∙ walk-met endian sections (symbolIn d gap h) (h .symbols) sec (f - 1) o j before-end q
         ∙ rw (stop-by-record o j, size-by-record j)
 
     pub walk-at-refused : (j : ℕ) (r : Refusal) → numberFrom o ≡ some j → invalidSymbol s (symbolAt d gap h j) o ≡ some r → (walkFrom f o ≡ some r) × (keptFrom f o ≡ [])
     walk-at-refused j r q e = (
       met j q ∙ rw e,
-      kept-refused (byteOrder (h .order)) (tab (sectionIn d gap h) (h .sections)) (symbolIn d gap h) (h .symbols) sec f o j r q (stop-by-record o j ∙ e),
+      kept-refused endian sections (symbolIn d gap h) (h .symbols) sec f o j r q (stop-by-record o j ∙ e),
     )
 
     pub walk-at-met : (j : ℕ) → numberFrom o ≡ some j → invalidSymbol s (symbolAt d gap h j) o ≡ none
@@ -140,7 +146,7 @@ module _ (d : List ℕ) (gap : ℕ) (h : Head) (s : SectionRecord) where
     walk-at-met j q e = (
       met j q ∙ rw e,
       ap (λ g. keptFrom g o) fuelled
-          ∙ kept-met (byteOrder (h .order)) (tab (sectionIn d gap h) (h .sections)) (symbolIn d gap h) (h .symbols) sec (f - 1) o j before-end q (stop-by-record o j ∙ e)
+          ∙ kept-met endian sections (symbolIn d gap h) (h .symbols) sec (f - 1) o j before-end q (stop-by-record o j ∙ e)
           ∙ rw (size-by-record j),
     )
 
@@ -152,13 +158,13 @@ module _ (d : List ℕ) (gap : ℕ) (h : Head) (s : SectionRecord) where
   -- ---- the whole section
 
   unfoldable pub functionNumbers : List ℕ
-  functionNumbers = textNumbers (byteOrder (h .order)) (tab (sectionIn d gap h) (h .sections)) (symbolIn d gap h) (h .symbols) sec
+  functionNumbers = textNumbers endian sections (symbolIn d gap h) (h .symbols) sec
 
   -- of an accepted section they are those of its walk
   pub numbers-of-walk : textRefusal (objectIn d gap h) sec ≡ none
-      → functionNumbers ≡ walkNumbers (byteOrder (h .order)) (tab (sectionIn d gap h) (h .sections)) (symbolIn d gap h) (h .symbols) sec (length (sec .bytes)) 0
+      → functionNumbers ≡ walkNumbers endian sections (symbolIn d gap h) (h .symbols) sec (length (sec .bytes)) 0
   unfolding functionNumbers objectIn
-  numbers-of-walk e = numbers-accepted (byteOrder (h .order)) (tab (sectionIn d gap h) (h .sections)) (symbolIn d gap h) (h .symbols) sec e
+  numbers-of-walk e = numbers-accepted endian sections (symbolIn d gap h) (h .symbols) sec e
 
   abbrev least : Option ℕ
   least = leastAgain (addressIn d gap h) (textIn d gap h sec)
@@ -167,11 +173,11 @@ module _ (d : List ℕ) (gap : ℕ) (h : Head) (s : SectionRecord) where
       ≡ orElse (maybe least none (λ j. some (refusal 11 (s .index) (symbolAt d gap h j .index)))) (walkFrom (s .bytes .length) 0)
   unfolding objectIn sectionFrom symbolFrom
   refusal-is =
-      text-by-walk (byteOrder (h .order)) (tab (sectionIn d gap h) (h .sections)) (symbolIn d gap h) (h .symbols) sec ∙ rw length-bytes
+      text-by-walk endian sections (symbolIn d gap h) (h .symbols) sec ∙ rw length-bytes
 
   numbers-are : functionNumbers ≡ maybe least (keptFrom (s .bytes .length) 0) (λ j. [])
   unfolding functionNumbers
-  numbers-are = numbers-by-walk (byteOrder (h .order)) (tab (sectionIn d gap h) (h .sections)) (symbolIn d gap h) (h .symbols) sec ∙ rw data-length
+  numbers-are = numbers-by-walk endian sections (symbolIn d gap h) (h .symbols) sec ∙ rw data-length
 
   -- what parsing a section answers and leaves in the lent numbers
   pub record Parsed (t : List ℕ) (w : ℕ) (r : ParsedText) (out : List ℕ) : Type 0 where

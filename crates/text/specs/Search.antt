@@ -1,20 +1,23 @@
 -- One step of the search for a text address, by the record at the place it stands at.
-use mathlib.Core.Path.{_≡_, refl, sym, ap, _∙_}
+use mathlib.Core.Path.{_≡_, sym, ap, _∙_}
 use mathlib.Core.Bool.{Bool, true, false}
-use mathlib.Core.List.{List, [], _∷_}
-use mathlib.Core.Option.{Option, none, some}
+use mathlib.Core.List.{List, _∷_}
+use mathlib.Core.Option.{none, some}
 use Prim.Native.Nat.{ℕ, _+_, _<_, _≤_}
-use native.Mathlib.Omega.{arith}
 use lib.ListN.{length, getD}
 use Rattle.model.specs.declared.Head.{Head}
+use Rattle.model.specs.declared.SectionRecord.{SectionRecord}
 use Rattle.model.specs.declared.SymbolRecord.{SymbolRecord}
 use Rattle.plan.specs.Shared.{firstAt}
 use Rattle.records.specs.Records.{symbolAt}
-use Rattle.view.specs.View.{symbolFrom, definedRecord, text-by-record}
-use Rattle.text.specs.Group.{addressIn, textGroup, group-end, group-text, group-other}
+use Rattle.view.specs.View.{sectionFrom, symbolFrom, definedRecord, text-by-record}
+use Rattle.text.specs.Group.{addressIn, textGroup, textIn, group-end, group-text, group-other}
 use Rattle.text.specs.Ahead.{Ahead, ahead-below, ahead-met, ahead-past, ahead-lost, ahead-none}
 
-module _ (d : List ℕ) (gap : ℕ) (h : Head) (all order : List ℕ) (k hi a : ℕ) where
+module _ (d : List ℕ) (gap : ℕ) (h : Head) (s : SectionRecord) (order : List ℕ) (k hi a : ℕ) where
+  abbrev all : List ℕ
+  all = textIn d gap h (sectionFrom d gap h s)
+
   -- the search stands at place k
   abbrev pub Stands : Type 0
   Stands = Ahead (addressIn d gap h) all a (textGroup d gap h order k hi)

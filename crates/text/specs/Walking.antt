@@ -1,7 +1,7 @@
 -- What holds between two steps of the walk of a text section, and what it answers at each way out.
 use mathlib.Core.Path.{_≡_, refl, sym, ap, _∙_}
 use mathlib.Core.Bool.{Bool, true, false}
-use mathlib.Core.List.{List, [], _∷_, _++_, append-assoc, append-nil}
+use mathlib.Core.List.{List, [], _++_, append-assoc, append-nil}
 use mathlib.Core.Option.{Option, none, some}
 use Prim.Native.Nat.{ℕ, suc, _+_, _-_, _<_, _≤_}
 use native.Mathlib.Omega.{arith}
@@ -26,20 +26,7 @@ use Rattle.records.specs.Records.{symbolAt}
 use Rattle.view.specs.View.{sectionFrom, sectionIn, symbolIn}
 use Rattle.text.specs.Group.{addressIn, textGroup, textIn}
 use Rattle.text.specs.Ahead.{Ahead, ahead-start}
-use Rattle.text.specs.Parsed.{
-  invalidSymbol,
-  unknownSymbol,
-  parsedText,
-  laid,
-  walkFrom,
-  keptFrom,
-  numberFrom,
-  walk-at-end,
-  walk-at-none,
-  walk-at-refused,
-  walk-at-met,
-  Walked,
-}
+use Rattle.text.specs.Parsed.{invalidSymbol, unknownSymbol, parsedText, walkFrom, keptFrom, numberFrom, walk-at-end, walk-at-none, walk-at-refused, walk-at-met, Walked}
 
 -- a symbol that is not refused has bytes, and they end inside the data
 pub valid-size : (s : SectionRecord) (y : SymbolRecord) (o : ℕ) → invalidSymbol s y o ≡ none → (0 < y .size) × (o + y .size ≤ s .bytes .length)

@@ -2,7 +2,7 @@
 ghost use mathlib.Core.Path.{_≡_};
 ghost use mathlib.Core.Option.{some};
 ghost use Prim.Native.Nat.{_+_, _-_, _≤_};
-ghost use lib.ListN.{length, take, drop};
+ghost use lib.ListN.{length};
 ghost use Rattle.plan.specs.Shared.{earlier as earlierOf, leastAgain};
 ghost use Rattle.view.specs.View.{sectionFrom};
 ghost use Rattle.view.specs.Checked.{checkedOf};

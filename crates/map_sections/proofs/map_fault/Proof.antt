@@ -1,6 +1,5 @@
 -- `map_sections::map_fault` meets its contract: each answer by the tests before it, the record at its place in the stream.
-use mathlib.Core.Path.{_≡_, sym, ap, _∙_}
-use mathlib.Core.Bool.{Bool}
+use mathlib.Core.Path.{_≡_, sym, _∙_}
 use Prim.Native.Nat.{_+_}
 use denote.Ref.{now}
 use native.Mathlib.Omega.{arith}

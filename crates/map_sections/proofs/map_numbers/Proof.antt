@@ -1,6 +1,6 @@
 -- `map_sections::map_numbers` meets its contract. The loop's invariant: behind the first w lie the numbers passed, and the rest is as it was.
 use mathlib.Core.Path.{_≡_, refl}
-use Prim.Native.Nat.{ℕ, _+_, _-_, _<_, _≤_}
+use Prim.Native.Nat.{_+_, _-_, _<_, _≤_}
 use denote.Ref.{now}
 use native.Mathlib.Omega.{arith}
 use lib.ListN.{length, getD, length-set}

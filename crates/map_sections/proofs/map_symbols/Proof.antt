@@ -1,7 +1,7 @@
 -- `map_sections::map_symbols` meets its contract. The loop's invariant: the first refusal of the group is the first from i on.
 use mathlib.Core.Path.{_≡_, refl, sym, ap, _∙_}
 use mathlib.Core.Option.{none, some}
-use Prim.Native.Nat.{_-_}
+use Prim.Native.Nat.{_-_, _≤_}
 use denote.Ref.{now}
 use native.Mathlib.Omega.{arith}
 use lib.ListN.{getD}
@@ -18,13 +18,13 @@ use Rattle.map_sections.proofs.map_symbols.Statement.{statement}
 use Rattle.map_sections.proofs.map_symbols.Tie as tie
 
 abbrev Inv-loop : tie.InvT-loop
-Inv-loop d gap h s order lo hi i₀ i = firstIn (refusalAt d gap h s) (slice lo hi order) ≡ firstIn (refusalAt d gap h s) (slice i hi order)
+Inv-loop d gap h s order lo hi i₀ i = (lo ≤ i) × (firstIn (refusalAt d gap h s) (slice lo hi order) ≡ firstIn (refusalAt d gap h s) (slice i hi order))
 
 abbrev μ-loop : tie.MeasureT-loop
 μ-loop d gap h s order lo hi i₀ i = hi - i
 
 loop-holds : tie.Need-loop-holds Inv-loop μ-loop
-loop-holds c = refl
+loop-holds c = (omega arith, refl)
 
 mul-symbol : tie.Need-mul-symbol Inv-loop μ-loop
 mul-symbol c = search needs
@@ -60,7 +60,7 @@ returns c =
     ∙ sym
     (ap checkedOf
     (firstIn-map (mapSymbolRefusal (sectionFrom d (a .gap) (a .h) (a .s))) (symbolIn d (a .gap) (a .h)) (slice (a .lo) (a .hi) (now (a .order)))
-    ∙ l .loop .inv
+    ∙ l .loop .inv .1
     ∙ first-found look i (a .hi) (now (a .order)) _ (omega arith) (omega arith) at))
 
 add-i : tie.Need-add-i Inv-loop μ-loop
@@ -81,7 +81,7 @@ loop-again c =
     let none-at : look (getD (now (a .order)) i 0) ≡ none =
     ap (refusalBy d (a .gap) (a .h) (a .s)) (sym (f .before .symbol .ensures))
     ∙ refusal-fine d (a .gap) (a .h) (a .s) y (sym (f .map-fault .ensures) ∙ c .if1 .left) in
-    l .loop .inv ∙ first-next look i (a .hi) (now (a .order)) (omega arith) (omega arith) none-at
+    (omega arith, l .loop .inv .1 ∙ first-next look i (a .hi) (now (a .order)) (omega arith) (omega arith) none-at)
 
 returns-2 : tie.Need-returns-2 Inv-loop μ-loop
 returns-2 c =
@@ -91,7 +91,7 @@ returns-2 c =
     sym
     (ap checkedOf
     (firstIn-map (mapSymbolRefusal (sectionFrom d (a .gap) (a .h) (a .s))) (symbolIn d (a .gap) (a .h)) (slice (a .lo) (a .hi) (now (a .order)))
-    ∙ l .loop .inv
+    ∙ l .loop .inv .1
     ∙ first-end (refusalAt d (a .gap) (a .h) (a .s)) (l .loop .i) (a .hi) (now (a .order)) (omega arith)))
 
 pub map-symbols-spec : {M : Type 1} → statement M

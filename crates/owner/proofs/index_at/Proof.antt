@@ -1,6 +1,6 @@
 -- `owner::index_at` meets its contract: the index is a record's first field.
 use denote.Ref.{now}
-use mathlib.Core.Path.{ap, sym, _∙_}
+use mathlib.Core.Path.{ap}
 use Prim.Native.Nat.{_+_, _*_}
 use Rattle.model.specs.declared.SectionRecord.{SectionRecord}
 use Rattle.records.specs.Records.{sectionAt}

@@ -2,7 +2,7 @@
 use mathlib.Core.Path.{_≡_, refl, sym, ap, _∙_}
 use mathlib.Core.Logic.{⊎-elim}
 use mathlib.Core.Option.{none, some}
-use Prim.Native.Nat.{_-_}
+use Prim.Native.Nat.{_-_, _≤_}
 use denote.Ref.{now}
 use native.Mathlib.Omega.{arith}
 use lib.ListN.{getD}
@@ -19,13 +19,13 @@ use Rattle.programs.proofs.program_symbols.Statement.{statement}
 use Rattle.programs.proofs.program_symbols.Tie as tie
 
 abbrev Inv-loop : tie.InvT-loop
-Inv-loop d gap h s order lo hi i₀ i = firstIn (refusalAt d gap h s) (slice lo hi order) ≡ firstIn (refusalAt d gap h s) (slice i hi order)
+Inv-loop d gap h s order lo hi i₀ i = (lo ≤ i) × (firstIn (refusalAt d gap h s) (slice lo hi order) ≡ firstIn (refusalAt d gap h s) (slice i hi order))
 
 abbrev μ-loop : tie.MeasureT-loop
 μ-loop d gap h s order lo hi i₀ i = hi - i
 
 loop-holds : tie.Need-loop-holds Inv-loop μ-loop
-loop-holds c = refl
+loop-holds c = (omega arith, refl)
 
 mul-symbol : tie.Need-mul-symbol Inv-loop μ-loop
 mul-symbol c = search needs
@@ -65,7 +65,7 @@ returns c =
     ∙ sym
     (ap checkedOf
     (first-kept (programSymbolRefusal (sectionFrom d (a .gap) (a .h) (a .s))) (symbolIn d (a .gap) (a .h)) (λ j. isProgram (symbolIn d (a .gap) (a .h) j)) (slice (a .lo) (a .hi) (now (a .order)))
-    ∙ l .loop .inv
+    ∙ l .loop .inv .1
     ∙ first-found look i (a .hi) (now (a .order)) _ (omega arith) (omega arith) at))
 
 add-i : tie.Need-add-i Inv-loop μ-loop
@@ -89,7 +89,7 @@ loop-again c =
     (λ w. refusal-fine d (a .gap) (a .h) (a .s) y (sym (w .1 .ensures) ∙ w .2 .left))
     (λ w. refusal-other d (a .gap) (a .h) (a .s) y (sym (p .is-program .ensures) ∙ w .left))
     (c .if1 .came) in
-    l .loop .inv ∙ first-next look i (a .hi) (now (a .order)) (omega arith) (omega arith) none-at
+    (omega arith, l .loop .inv .1 ∙ first-next look i (a .hi) (now (a .order)) (omega arith) (omega arith) none-at)
 
 returns-2 : tie.Need-returns-2 Inv-loop μ-loop
 returns-2 c =
@@ -100,7 +100,7 @@ returns-2 c =
     sym
     (ap checkedOf
     (first-kept (programSymbolRefusal (sectionFrom d (a .gap) (a .h) (a .s))) (symbolIn d (a .gap) (a .h)) (λ j. isProgram (symbolIn d (a .gap) (a .h) j)) (slice (a .lo) (a .hi) (now (a .order)))
-    ∙ l .loop .inv
+    ∙ l .loop .inv .1
     ∙ first-end look (l .loop .i) (a .hi) (now (a .order)) (omega arith)))
 
 pub program-symbols-spec : {M : Type 1} → statement M

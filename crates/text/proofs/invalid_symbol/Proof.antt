@@ -1,10 +1,8 @@
 -- `text::invalid_symbol` meets its contract: its tests are the definition's, that of the data's end by subtraction.
-use mathlib.Core.Path.{_≡_, sym, _∙_}
-use mathlib.Core.Bool.{Bool}
+use mathlib.Core.Path.{sym, _∙_}
 use Prim.Native.Nat.{_+_, _<_, _≤_}
 use native.Mathlib.Omega.{arith}
 use borrow.Author.Tests.{eq-eqb, ne-eqb, lt-ltb, le-ltb}
-use Rattle.model.specs.Instruction.{invalidProgramCode}
 use Rattle.text.specs.Parsed.{invalidSymbol}
 use borrow.Author.Needs.{needs}
 use Rattle.text.proofs.invalid_symbol.Statement.{statement}

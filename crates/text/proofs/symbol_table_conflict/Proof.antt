@@ -1,5 +1,5 @@
 -- `text::symbol_table_conflict` meets its contract: what the pass answers in the end is fixed by what it holds and by what is before it (`answer`).
-use mathlib.Core.Path.{_≡_, _∙_, sym, ap}
+use mathlib.Core.Path.{_≡_, _∙_, sym}
 use Prim.Native.Nat.{_≤_, _-_}
 use native.Mathlib.Omega.{arith}
 use denote.Ref.{now}

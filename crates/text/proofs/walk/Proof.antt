@@ -6,14 +6,10 @@ use mathlib.Core.Option.{none, some}
 use Prim.Native.Nat.{ℕ, _+_, _-_, _*_, _^_, _<_, _≤_}
 use native.Mathlib.Omega.{arith}
 use denote.Ref.{now}
-use lib.ListN.{length, getD, set}
+use lib.ListN.{length, getD}
 use Rattle.model.specs.Symbols.{top}
-use Rattle.records.specs.Records.{symbolAt}
-use Rattle.view.specs.View.{sectionFrom, definedRecord}
-use Rattle.view.specs.Checked.{checkedOf}
+use Rattle.view.specs.View.{definedRecord}
 use Rattle.text.specs.declared.ParsedText.{ParsedText}
-use Rattle.text.specs.Group.{addressIn, textGroup, textIn}
-use Rattle.text.specs.Ahead.{Ahead, ahead-up}
 use Rattle.text.specs.Search.{Stands, search-end, search-other, search-below, search-met, search-past, search-lost}
 use Rattle.text.specs.Parsed.{invalidSymbol, unknownSymbol, numberFrom, number-passed, number-found, checked-fine, checked-refused, Walked}
 use Rattle.text.specs.Walking.{Walking, valid-size, walking-start, walked-end, walked-unknown, walked-invalid, walking-next}
@@ -23,7 +19,7 @@ use Rattle.text.proofs.walk.Tie as tie
 
 abbrev Inv-loop2 : tie.InvT-loop2
 Inv-loop2 d gap h s order lo hi out w len start offset k₀ n address k =
-    (k₀ ≤ k) × (k ≤ hi) × Stands d gap h (textIn d gap h (sectionFrom d gap h s)) order k hi address
+    (k₀ ≤ k) × (k ≤ hi) × Stands d gap h s order k hi address
 
 abbrev μ-loop2 : tie.MeasureT-loop2
 μ-loop2 d gap h s order lo hi out w len start offset k₀ n address k = hi - k
@@ -113,7 +109,7 @@ returns-2 c =
     let a = start l .args in
     unknown (m .before .before) (c .unknown-symbol2 .result) (c .unknown-symbol2 .ensures)
     (number-found (now (a .d)) (a .gap) (a .h) (a .s) (l .loop .offset) none (reached (m .before))
-    (search-end (now (a .d)) (a .gap) (a .h) (textIn (now (a .d)) (a .gap) (a .h) (sectionFrom (now (a .d)) (a .gap) (a .h) (a .s))) (now (a .order)) (m .loop2 .k) (a .hi) (a .s .address + l .loop .offset)
+    (search-end (now (a .d)) (a .gap) (a .h) (a .s) (now (a .order)) (m .loop2 .k) (a .hi) (a .s .address + l .loop .offset)
     (c .before .if2 .taken) (m .loop2 .inv .1) (m .loop2 .inv .2)))
 
 mul-j : tie.Need-mul-j Inv-loop2 μ-loop2 Inv-loop μ-loop
@@ -146,7 +142,7 @@ returns-3 c =
     let a = start l .args in
     unknown (m .before .before) (c .unknown-symbol3 .result) (c .unknown-symbol3 .ensures)
     (number-found (now (a .d)) (a .gap) (a .h) (a .s) (l .loop .offset) none (reached (m .before))
-    (search-lost (now (a .d)) (a .gap) (a .h) (textIn (now (a .d)) (a .gap) (a .h) (sectionFrom (now (a .d)) (a .gap) (a .h) (a .s))) (now (a .order)) (m .loop2 .k) (a .hi) (a .s .address + l .loop .offset)
+    (search-lost (now (a .d)) (a .gap) (a .h) (a .s) (now (a .order)) (m .loop2 .k) (a .hi) (a .s .address + l .loop .offset)
     (x .before .before .before .if2 .left) (start l .pre .0 .2) (x .before .symbol .result) (x .before .symbol .ensures) (text i) (m .loop2 .inv .2) (c .before .if5 .taken)))
 
 loop2-less : tie.Need-loop2-less Inv-loop2 μ-loop2 Inv-loop μ-loop
@@ -164,7 +160,7 @@ loop2-again c =
     let more : m .loop2 .k < a .hi = x .before .before .before .if2 .left in (
       omega arith,
       omega arith,
-      search-below (now (a .d)) (a .gap) (a .h) (textIn (now (a .d)) (a .gap) (a .h) (sectionFrom (now (a .d)) (a .gap) (a .h) (a .s))) (now (a .order)) (m .loop2 .k) (a .hi) (a .s .address + l .loop .offset)
+      search-below (now (a .d)) (a .gap) (a .h) (a .s) (now (a .order)) (m .loop2 .k) (a .hi) (a .s .address + l .loop .offset)
           (x .before .before .before .if2 .left) (start l .pre .0 .2) (x .before .symbol .result) (x .before .symbol .ensures) (text i) (m .loop2 .inv .2) below,
     )
 
@@ -181,7 +177,7 @@ loop2-again-2 c =
     let more : m .loop2 .k < a .hi = x .before .before .before .if2 .left in (
       omega arith,
       omega arith,
-      search-other (now (a .d)) (a .gap) (a .h) (textIn (now (a .d)) (a .gap) (a .h) (sectionFrom (now (a .d)) (a .gap) (a .h) (a .s))) (now (a .order)) (m .loop2 .k) (a .hi) (a .s .address + l .loop .offset)
+      search-other (now (a .d)) (a .gap) (a .h) (a .s) (now (a .order)) (m .loop2 .k) (a .hi) (a .s .address + l .loop .offset)
           (x .before .before .before .if2 .left) (start l .pre .0 .2) (x .before .symbol .result) (x .before .symbol .ensures) (sym (x .is-defined-text .ensures) ∙ c .if3 .left) (m .loop2 .inv .2),
     )
 
@@ -198,7 +194,7 @@ found c =
     let l = head m in
     let a = start l .args in
     number-found (now (a .d)) (a .gap) (a .h) (a .s) (l .loop .offset) (some (getD (now (a .order)) (m .loop2 .k) 0)) (reached (m .before))
-    (search-met (now (a .d)) (a .gap) (a .h) (textIn (now (a .d)) (a .gap) (a .h) (sectionFrom (now (a .d)) (a .gap) (a .h) (a .s))) (now (a .order)) (m .loop2 .k) (a .hi) (a .s .address + l .loop .offset)
+    (search-met (now (a .d)) (a .gap) (a .h) (a .s) (now (a .order)) (m .loop2 .k) (a .hi) (a .s .address + l .loop .offset)
     (x .before .before .before .if2 .left) (start l .pre .0 .2) (x .before .symbol .result) (x .before .symbol .ensures) (text i) (m .loop2 .inv .2) (c .if4 .taken))
 
 symbol-requires-2 : tie.Need-symbol-requires-2 Inv-loop2 μ-loop2 Inv-loop μ-loop
@@ -298,7 +294,7 @@ loop-again c =
     rw (y .ensures)
     (walking-next (now (a .d)) (a .gap) (a .h) (a .s) (now (a .order)) (a .lo) (a .hi) (now (a .out)) (a .w) (l .loop .offset) (l .loop .k) (l .loop .n) (l .loop .out) (l .loop .inv)
     (start l .pre .0 .3) (left (m .before .before)) j (m .loop2 .k + 1) (found f) (rw (← y .ensures) (fine e)) (omega arith) (omega arith)
-    (rw (← y .ensures) (search-past (now (a .d)) (a .gap) (a .h) (textIn (now (a .d)) (a .gap) (a .h) (sectionFrom (now (a .d)) (a .gap) (a .h) (a .s))) (now (a .order)) (m .loop2 .k) (a .hi) (a .s .address + l .loop .offset)
+    (rw (← y .ensures) (search-past (now (a .d)) (a .gap) (a .h) (a .s) (now (a .order)) (m .loop2 .k) (a .hi) (a .s .address + l .loop .offset)
     (x .before .before .before .if2 .left) (start l .pre .0 .2) (x .before .symbol .result) (x .before .symbol .ensures) (text i) (m .loop2 .inv .2) (a .s .address + (l .loop .offset + y .result .size)) (f .if4 .taken) (omega arith))))
 
 same-length-5 : tie.Need-same-length-5 Inv-loop2 μ-loop2 Inv-loop μ-loop

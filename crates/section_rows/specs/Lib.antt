@@ -1,0 +1,2 @@
+-- What the contracts of `section_rows` cite.
+pub mod Rows
