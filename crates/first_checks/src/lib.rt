@@ -16,16 +16,13 @@ ghost use Rattle.view.specs.Checked.{checkedOf};
 ghost use Rattle.view.specs.View.{sectionFrom, objectIn};
 ghost use Rattle.first_checks.specs.Named.{foundOf, nameAt, numberNamed};
 ghost use Rattle.first_checks.specs.Targets.{NextOf, nextUntargeted, reaches};
-ghost use Rattle.first_checks.specs.LicenceVersion.{RelocsInside, numbered, licenceRefused, versionRefused, licenseAt};
+ghost use Rattle.first_checks.specs.LicenceVersion.{RelocsInside, licenceRefused, versionRefused, licenseAt};
 use model::Endianness;
 use model::Head;
 use model::KernelVersion;
 use model::ParsedLicense;
 use model::ParsedVersion;
-use model::Refusal;
-use model::SectionIndex;
 use model::SectionRecord;
-use model::SymbolIndex;
 use stream::size;
 use stream::u32_at;
 use view::Checked;
@@ -114,17 +111,6 @@ pub fn untargeted(s: SectionRecord, next: &[u32]) -> bool
     size(next[first]) < first + n
 }
 
-fn refused(number: u32, section: SectionIndex) -> Checked
-    ensures { λ r. ⌜ r ≡ checkedOf (numbered section (some number)) ⌝ }
-{
-    Checked::Refused(Refusal {
-        number,
-        section,
-        symbol: SymbolIndex(0),
-        entry: 0,
-    })
-}
-
 fn parsed_license(d: &[u8], gap: usize, h: Head, s: SectionRecord) -> ParsedLicense
     requires { ⌜ gap ≤ 4 ⌝ }
     ensures { λ r. ⌜ r ≡ parseLicense (sectionFrom (now (d .entry)) gap h s .bytes) ⌝ }
@@ -160,14 +146,13 @@ fn check_license(d: &[u8], gap: usize, h: Head, s: SectionRecord, next: &[u32]) 
         ⌝ }
     ensures { λ r. ⌜ r ≡ checkedOf (licenceRefusal (sectionFrom (now (d .entry)) gap h s)) ⌝ }
 {
-    let index = s.index;
     if untargeted(s, next) {
-        return refused(4, index);
+        return view::of_section(4, s);
     }
     match parsed_license(d, gap, h, s) {
         ParsedLicense::License(_) => Checked::Fine,
-        ParsedLicense::InvalidLicense => refused(5, index),
-        ParsedLicense::MissingLicenseNullTerminator => refused(6, index),
+        ParsedLicense::InvalidLicense => view::of_section(5, s),
+        ParsedLicense::MissingLicenseNullTerminator => view::of_section(6, s),
     }
 }
 
@@ -178,13 +163,12 @@ fn check_version(d: &[u8], gap: usize, h: Head, s: SectionRecord, next: &[u32]) 
         ⌝ }
     ensures { λ r. ⌜ r ≡ checkedOf (versionRefusal (byteOrder (h .order)) (sectionFrom (now (d .entry)) gap h s)) ⌝ }
 {
-    let index = s.index;
     if untargeted(s, next) {
-        return refused(4, index);
+        return view::of_section(4, s);
     }
     match parsed_version(d, gap, h, s) {
         ParsedVersion::Version(_) => Checked::Fine,
-        ParsedVersion::InvalidKernelVersion => refused(7, index),
+        ParsedVersion::InvalidKernelVersion => view::of_section(7, s),
     }
 }
 
