@@ -1,7 +1,6 @@
 // The head and the records of a deposit, by number, and the walk over record numbers.
 ghost use mathlib.Core.Path.{_≡_};
-ghost use Prim.Native.Nat.{_+_, _*_, _^_, _<_, _≤_};
-ghost use lib.ListN.{length};
+ghost use Prim.Native.Nat.{_+_, _^_, _<_, _≤_};
 ghost use Rattle.model.specs.Deposit.{endOf};
 ghost use Rattle.records.specs.Records.{headAt, extentAt, symbolsAt, relocationsAt, namesAt, dataAt, sectionAt, symbolAt, relocationAt, cursor, stepOf};
 use model::Extent;

@@ -1,10 +1,9 @@
 // Number 2, the rules of a deposit's stream, and number 3: each record and each name that one refers to is looked at once.
 ghost use mathlib.Core.Path.{_≡_};
-ghost use Prim.Native.Nat.{_+_, _*_, _/_, _%_, _^_, _<_, _≤_, min, max};
+ghost use Prim.Native.Nat.{_+_, _*_, _/_, _^_, _<_, _≤_, min, max};
 ghost use lib.ListN.{length};
 ghost use Rattle.model.specs.Deposit.{endOf, all, allZero, headOk, within, relocationOk};
 ghost use Rattle.stream.specs.Stream.{bytesAt, place as placeOf};
-ghost use Rattle.records.specs.Records.{namesAt};
 ghost use Rattle.rules.specs.Rules.{nameByte, nameOkAt, sectionOkAt, symbolOkAt, isBtf, symbolsOk, relocationsOk, restOk};
 ghost use Rattle.rules.specs.Checked.{checkedSections};
 use model::Extent;
