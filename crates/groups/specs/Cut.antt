@@ -1,8 +1,8 @@
 -- Where a walk over sorted symbol numbers stops: before the first that is not below a section's number, and behind the last that has it.
-use mathlib.Core.Path.{_≡_, refl, sym, ap, _∙_}
+use mathlib.Core.Path.{_≡_, refl, sym}
 use mathlib.Core.Bool.{Bool, true, false, cond}
-use mathlib.Core.List.{List, [], _∷_, _++_}
-use mathlib.Core.Option.{Option, none, some}
+use mathlib.Core.List.{List, [], _∷_}
+use mathlib.Core.Option.{none, some}
 use Prim.Native.Nat.{ℕ, _+_, _<_, _≤_}
 use native.Mathlib.Omega.{arith}
 use lib.Dec.{eqb}
@@ -14,12 +14,11 @@ use Rattle.model.specs.declared.Head.{Head}
 use Rattle.model.specs.declared.SectionIndex.{SectionIndex}
 use Rattle.model.specs.declared.SymbolRecord.{SymbolRecord}
 use Rattle.model.specs.Bytes.{maybe}
-use Rattle.model.specs.Deposit.{unlessNone}
 use Rattle.records.specs.Records.{symbolAt}
 use Rattle.plan.specs.SectionsPrograms.{All}
 use Rattle.plan.specs.FunctionsMaps.{all-append}
 use Rattle.plan.specs.ByNumber.{rawSection}
-use Rattle.view.specs.View.{symbolFrom, symbolIn}
+use Rattle.view.specs.View.{symbolFrom}
 
 -- the number of a symbol's section as its record has it
 pub raw-is : (d : List ℕ) (gap : ℕ) (h : Head) (r : SymbolRecord) → rawSection (symbolFrom d gap h r) ≡ r .section .0

@@ -1,16 +1,13 @@
 -- Laws of keys and of tables: the order of keys is strict and total, a table is sorted, and of one key it has the last entry.
 use mathlib.Core.Path.{_≡_, refl, sym, ap, _∙_}
 use mathlib.Core.Logic.{_⊎_, inl, inr, ⊎-elim}
-use mathlib.Core.Bool.{Bool, true, false, cond, _&&_}
+use mathlib.Core.Bool.{Bool, true, false, cond}
 use mathlib.Core.List.{List, [], _∷_, _++_}
-use Prim.Native.Nat.{ℕ, _<_, _≤_}
-use native.Mathlib.Omega.{arith}
-use borrow.Author.Tests.{eqb-true, eqb-false, eq-eqb, ne-eqb, ltb-true, ltb-false, lt-ltb}
-use lib.Dec.{eqb, ltb}
+use Prim.Native.Nat.{ℕ}
 use Rattle.model.specs.Bytes.{push, keep, same, before, _∈_}
 use Rattle.model.specs.Table.{put, tableOf}
 pub use Rattle.orders.specs.Keys.{same-is, same-refl, before-eq, before-second, before-trans, after-is, before-irrefl}
-use Rattle.guarantees.specs.OptionsAndLists.{true-not-false, both-true}
+use Rattle.guarantees.specs.OptionsAndLists.{true-not-false}
 
 -- ---- members
 

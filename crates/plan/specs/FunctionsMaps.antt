@@ -1,10 +1,10 @@
 -- The function table and the map table as tables of numbers.
 use mathlib.Core.Path.{_≡_, refl, sym, ap, _∙_}
-use mathlib.Core.Bool.{Bool, true, false, cond, _||_}
+use mathlib.Core.Bool.{Bool, true, false, cond}
 use mathlib.Core.List.{List, [], _∷_, _++_, map}
-use mathlib.Core.Logic.{_⊎_, inl, inr}
+use mathlib.Core.Logic.{inl, inr}
 use mathlib.Core.Option.{Option, none, some}
-use Prim.Native.Nat.{ℕ, zero, suc, _+_, _-_, _<_, _≤_}
+use Prim.Native.Nat.{ℕ, zero, suc, _+_, _-_, _<_}
 use native.Mathlib.Omega.{arith}
 use borrow.Author.Tests.{eqb-true, lt-ltb, le-ltb}
 use lib.Dec.{eqb, leb, ltb}
@@ -18,8 +18,8 @@ use Rattle.model.specs.Bytes.{keep, each, firstIn, find, orElse, maybe, _∈_}
 use Rattle.model.specs.Object.{Section, Symbol, Object}
 use Rattle.model.specs.SectionKind.{isKind, kindOf}
 use Rattle.model.specs.Table.{tableOf}
-use Rattle.model.specs.Catalogue.{Function, Map, Catalogue, functionKey, mapKey}
-use Rattle.model.specs.Symbols.{top, liesIn, symbolsOf, programSymbols, definedText, walkOf}
+use Rattle.model.specs.Catalogue.{Function, Map, functionKey, mapKey}
+use Rattle.model.specs.Symbols.{top, liesIn, symbolsOf, programSymbols, walkOf}
 use Rattle.model.specs.Contents.{programFunction, functionAt, textFunction, functionsOf, legacyMap, dataMap, isData, mapsOf, catalogueOf}
 use Rattle.orders.specs.Sort.{pick, insert, sorted}
 use Rattle.plan.specs.Numbers.{each-tab}
@@ -27,7 +27,7 @@ use Rattle.plan.specs.Tables.{table-map, table-on}
 use Rattle.plan.specs.Shared.{byAddress}
 use Rattle.plan.specs.ByNumber.{members, programMembers, textMembers, textOrder, numberAt, symbols-by, programs-by, rawSection}
 use Rattle.plan.specs.Walk.{numberIn, walkNumbers, textFunctionOf, functions-met}
-use Rattle.plan.specs.SectionsPrograms.{rows-map, rows-ext, All, map-on, all-keep, all-kept, whole, Rising, home, home-is, members-home, programs-home}
+use Rattle.plan.specs.SectionsPrograms.{rows-map, rows-ext, All, map-on, all-keep, all-kept, whole, Rising, home, home-is}
 
 -- ---- what all of a list have, its sorted form and what is found in it have
 

@@ -1,19 +1,17 @@
 -- Where a section's symbols stand among all symbols sorted by section, and its defined text among those sorted by section and address: one group each.
 use mathlib.Core.Path.{_≡_, refl, sym, ap, _∙_}
-use mathlib.Core.Bool.{Bool, true, false, cond, _&&_, not}
+use mathlib.Core.Bool.{Bool, true, false, cond, not}
 use mathlib.Core.List.{List, [], _∷_, _++_, append-nil}
 use mathlib.Core.Option.{Option, none, some}
-use Prim.Native.Nat.{ℕ, zero, suc, _+_, _-_, _<_, _≤_}
+use Prim.Native.Nat.{ℕ, zero, suc, _<_, _≤_}
 use native.Mathlib.Omega.{arith}
-use borrow.Author.Tests.{eqb-true, eq-eqb, ne-eqb, lt-ltb, le-ltb, ltb-true, ltb-false, le-leb, lt-leb}
+use borrow.Author.Tests.{eqb-true, eq-eqb, ne-eqb, le-ltb, ltb-true, ltb-false, le-leb, lt-leb}
 use lib.Dec.{eqb, ltb, leb}
-use lib.ListN.{length, take, drop, take-append-drop}
+use lib.ListN.{take, drop, take-append-drop}
 use lib.Seq.{slice}
-use Rattle.lists.specs.Tab.{tab}
-use Rattle.lists.specs.Tests.{true-not-false}
 use Rattle.model.specs.declared.SectionIndex.{SectionIndex}
 use Rattle.model.specs.declared.Endianness.{Endianness}
-use Rattle.model.specs.Bytes.{push, keep, maybe, before}
+use Rattle.model.specs.Bytes.{keep, maybe, before}
 use Rattle.model.specs.Object.{Section, Symbol}
 use Rattle.model.specs.Symbols.{liesIn}
 use Rattle.orders.specs.Sort.{byKey, key-order, pick, insert, sorted}

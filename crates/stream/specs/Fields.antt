@@ -1,12 +1,12 @@
 -- Numbers of a stream: `little` of the bytes at a place.
 use mathlib.Core.Path.{_≡_, refl, sym, ap, _∙_}
 use mathlib.Core.List.{List, [], _∷_, _++_}
-use Prim.Native.Nat.{ℕ, zero, suc, _+_, _-_, _*_, _^_, _<_, _≤_}
+use Prim.Native.Nat.{ℕ, suc, _+_, _*_, _^_, _≤_}
 use native.Mathlib.Nat.{pow-succ', mul-assoc}
 use native.Mathlib.Omega.{arith}
 use lib.ListN.{length, getD}
 use Rattle.model.specs.Bytes.{little, part}
-use Rattle.stream.specs.Stream.{place, byteAt, bytesAt, length-bytes}
+use Rattle.stream.specs.Stream.{byteAt, bytesAt, length-bytes}
 use Rattle.stream.specs.Laws.{bytes-append, bytes-plain}
 
 pub little-append : (xs ys : List ℕ) → little (xs ++ ys) ≡ little xs + 256 ^ length xs * little ys

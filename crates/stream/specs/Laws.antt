@@ -1,10 +1,10 @@
 -- Laws of `bytesAt`: byte by byte, in parts, and against the list where the bytes stand together.
-use mathlib.Core.Path.{_≡_, refl, sym, ap, _∙_}
-use mathlib.Core.List.{List, [], _∷_, _++_}
-use Prim.Native.Nat.{ℕ, zero, suc, _+_, _-_, _*_, _/_, _%_, _<_, _≤_}
+use mathlib.Core.Path.{_≡_, sym, ap, _∙_}
+use mathlib.Core.List.{List, _++_}
+use Prim.Native.Nat.{ℕ, zero, suc, _+_, _-_, _/_, _%_, _<_, _≤_}
 use native.Mathlib.Nat.{not-suc-le-zero, le-of-suc-le-suc, mul-le-mul-right}
 use native.Mathlib.Omega.{arith}
-use lib.ListN.{length, getD, take, drop, length-append, length-drop}
+use lib.ListN.{length, getD, take, drop, length-drop}
 use lib.Seq.{ext-getD, length-take-le, getD-take, getD-drop, take-at, drop-at}
 use Rattle.lists.specs.Tab.{tab, is-tab}
 use Rattle.model.specs.Bytes.{part}

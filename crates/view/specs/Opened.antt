@@ -1,10 +1,8 @@
 -- The object of a deposit that is opened is the one that its records stand for.
-use mathlib.Core.Path.{_≡_, refl, _∙_}
+use mathlib.Core.Path.{_≡_}
 use mathlib.Core.List.{List}
 use Prim.Native.Nat.{ℕ}
-use Rattle.lists.specs.Tab.{tab}
 use Rattle.model.specs.declared.Head.{Head}
-use Rattle.model.specs.Object.{Object}
 use Rattle.model.specs.Deposit.{objectOf}
 use Rattle.deposit.specs.Accepted
 use Rattle.deposit.specs.Accepted.{Accepted}

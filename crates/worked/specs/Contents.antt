@@ -1,11 +1,9 @@
 -- What an accepted catalogue holds: section kinds, licence and version, programs, text, maps, relocations, and which entry of one key stays.
 use mathlib.Core.Path.{_≡_, refl}
-use mathlib.Core.Bool.{Bool, true, false}
-use mathlib.Core.List.{List, [], _∷_, _++_, map}
-use mathlib.Core.Option.{Option, none, some}
-use Prim.Native.Nat.{ℕ, _+_, _*_}
+use mathlib.Core.Bool.{false}
+use mathlib.Core.List.{List, [], _∷_, _++_}
+use Prim.Native.Nat.{ℕ}
 use lib.IntN.{pos, negsuc}
-use lib.ListN.{length, take, replicate}
 use Rattle.model.specs.declared.Endianness.{Endianness}
 use Rattle.model.specs.declared.EbpfSectionKind.{EbpfSectionKind as Kind}
 use Rattle.model.specs.declared.KernelVersion.{KernelVersion}
@@ -13,7 +11,7 @@ use Rattle.model.specs.declared.XdpAttachType.{XdpAttachType}
 use Rattle.model.specs.declared.ProgramSection.{ProgramSection}
 use Rattle.model.specs.declared.BpfInsn.{BpfInsn}
 use Rattle.model.specs.Catalogue.{Catalogue}
-use Rattle.worked.specs.Write.{Sec, Sym, Rel, text, plain, sized, atAddress, relocated, func, global, undefined, absent, reloc, deposit}
+use Rattle.worked.specs.Write.{Sec, Sym, Rel, text, plain, sized, atAddress, relocated, func, global, undefined, reloc, deposit}
 use Rattle.worked.specs.Run.{loaded, catalogueIn, insn, entry, program, function, words, dataMapOf, legacyMapOf, relocation}
 
 -- an instruction that says x, and its eight bytes

@@ -1,11 +1,10 @@
 -- Damaged deposits: 1 and 3, and 2 by each rule, at its limit and past it. A row's number is what is said, 0 where the deposit is accepted.
 use mathlib.Core.Path.{_≡_, refl}
-use mathlib.Core.Bool.{Bool, true, false}
+use mathlib.Core.Bool.{true, false}
 use mathlib.Core.List.{List, [], _∷_, _++_}
-use Prim.Native.Nat.{ℕ, _+_, _*_}
+use Prim.Native.Nat.{ℕ}
 use lib.ListN.{length, take, replicate}
 use lib.Seq.{sets}
-use Rattle.model.specs.declared.Extent.{Extent}
 use Rattle.model.specs.declared.Head.{Head}
 use Rattle.model.specs.Bytes.{littleBytes as le}
 use Rattle.model.specs.Deposit.{headOk, Stream, nameOk}

@@ -1,6 +1,6 @@
 -- Document 01, 'The listing program': its example, from the deposit's bytes over every lent element to the printed text.
 use mathlib.Core.Path.{_≡_, refl}
-use mathlib.Core.Bool.{true, false}
+use mathlib.Core.Bool.{true}
 use mathlib.Core.List.{List, [], _∷_, _++_}
 use Prim.Native.Nat.{ℕ}
 use lib.ListN.{replicate}

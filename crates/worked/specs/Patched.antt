@@ -1,11 +1,9 @@
 -- Patch lists: 18 to 23, and what an accepted list does to the maps' bytes.
 use mathlib.Core.Path.{_≡_, refl}
-use mathlib.Core.Bool.{Bool, true, false}
-use mathlib.Core.List.{List, [], _∷_, _++_, map}
-use mathlib.Core.Option.{Option, none, some}
+use mathlib.Core.Bool.{false}
+use mathlib.Core.List.{List, [], _∷_, map}
 use Prim.Native.Nat.{ℕ, _+_, _*_}
-use lib.IntN.{pos, negsuc}
-use lib.ListN.{length, take, replicate}
+use lib.ListN.{replicate}
 use Rattle.model.specs.declared.Answer.{Answer}
 use Rattle.model.specs.Object.{Patch}
 use Rattle.model.specs.Patching.{Verdict}

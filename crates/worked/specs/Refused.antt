@@ -1,14 +1,13 @@
 -- Why a deposit goes back: numbers 4 to 17, each with the places it names, at its limit, and which goes first.
 use mathlib.Core.Path.{_≡_, refl}
-use mathlib.Core.Bool.{Bool, true, false}
-use mathlib.Core.List.{List, [], _∷_, _++_, map}
-use mathlib.Core.Option.{Option, none, some}
-use Prim.Native.Nat.{ℕ, _+_, _*_}
-use lib.IntN.{pos, negsuc}
-use lib.ListN.{length, take, replicate}
+use mathlib.Core.Bool.{false}
+use mathlib.Core.List.{List, [], _∷_, _++_}
+use Prim.Native.Nat.{ℕ}
+use lib.IntN.{pos}
+use lib.ListN.{take, replicate}
 use Rattle.model.specs.Patching.{Verdict}
-use Rattle.worked.specs.Write.{Sec, Sym, Rel, text, plain, sized, atAddress, relocated, func, global, undefined, absent, reloc, deposit}
-use Rattle.worked.specs.Run.{loaded, called, catalogueIn, no, patch, insn, entry, program, function, words, dataMapOf, legacyMapOf, relocation, room}
+use Rattle.worked.specs.Write.{Sec, Sym, Rel, text, plain, atAddress, relocated, func, global, undefined, absent, reloc, deposit}
+use Rattle.worked.specs.Run.{loaded, catalogueIn, no, insn, function}
 
 abbrev exit : List ℕ
 exit = 149 ∷ 0 ∷ 0 ∷ 0 ∷ 0 ∷ 0 ∷ 0 ∷ 0 ∷ []

@@ -2,10 +2,9 @@
 use mathlib.Core.Path.{_≡_, refl}
 use mathlib.Core.Bool.{Bool, true, false}
 use mathlib.Core.List.{List, [], _∷_, _++_, map}
-use mathlib.Core.Option.{Option, none, some}
-use Prim.Native.Nat.{ℕ, _+_, _*_}
-use lib.IntN.{pos, negsuc}
-use lib.ListN.{length, take, replicate}
+use Prim.Native.Nat.{ℕ}
+use lib.IntN.{pos}
+use lib.ListN.{length}
 use Rattle.model.specs.declared.BpfInsn.{BpfInsn}
 use Rattle.worked.specs.Write.{text, func, deposit}
 use Rattle.worked.specs.Run.{loaded, catalogueIn, insn}

@@ -1,11 +1,11 @@
 -- '24. A lent table or byte buffer is smaller than the catalogue': by each table and by the bytes, one element short; and said last.
 use mathlib.Core.Path.{_≡_, refl}
-use mathlib.Core.Bool.{Bool, true, false}
+use mathlib.Core.Bool.{false}
 use mathlib.Core.List.{List, [], _∷_}
 use Prim.Native.Nat.{ℕ}
 use lib.ListN.{replicate}
 use Rattle.model.specs.declared.Answer.{Answer}
-use Rattle.model.specs.Lent.{Lent, Room, Outcome}
+use Rattle.model.specs.Lent.{Room}
 use Rattle.worked.specs.Write.{text, plain, relocated, func, reloc, deposit}
 use Rattle.worked.specs.Run.{called, room, row}
 

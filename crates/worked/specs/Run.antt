@@ -1,12 +1,10 @@
 -- The definitions of model, unfolded as far as rows need them, and short names for what rows say.
 use mathlib.Core.Bool.{Bool}
 use mathlib.Core.List.{List, [], _∷_, _++_}
-use mathlib.Core.Option.{Option, none, some}
+use mathlib.Core.Option.{none, some}
 use Prim.Native.Nat.{ℕ}
 use Prim.Native.String.{String}
 use lib.IntN.{ℤ}
-use Rattle.model.specs.declared.SectionIndex.{SectionIndex}
-use Rattle.model.specs.declared.SymbolIndex.{SymbolIndex}
 use Rattle.model.specs.declared.Endianness.{Endianness}
 use Rattle.model.specs.declared.EbpfSectionKind.{EbpfSectionKind as Kind}
 use Rattle.model.specs.declared.ProgramSection.{ProgramSection}
@@ -14,8 +12,6 @@ use Rattle.model.specs.declared.KernelVersion.{KernelVersion}
 use Rattle.model.specs.declared.BpfInsn.{BpfInsn}
 use Rattle.model.specs.declared.BpfMapDef.{BpfMapDef}
 use Rattle.model.specs.declared.Function.{Function as FunctionRow}
-use Rattle.model.specs.declared.Summary.{Summary}
-use Rattle.model.specs.declared.Answer.{Answer}
 use Rattle.model.specs.Bytes.{ascii, keep, each, firstIn, find, same, startsWith, before, little, littleBytes, records}
 use Rattle.model.specs.Object.{Patch}
 use Rattle.model.specs.SectionKind.{fromName, orProgram, kindOf}
@@ -31,7 +27,7 @@ use Rattle.model.specs.Patching.{patchMap, withMaps, patchMaps, patched, rewrit
 use Rattle.model.specs.Deposit.{weigh, checkOk, checksOk, frameOk, streamIn, streamOf, headOf, sectionRecord, symbolRecord, relocationRecord, partsFrom, partsOf, endOf, all, allZero, headOk, lengthOk, nameOk, sectionOk, symbolOk, relocationOk, risingFrom, recordsOk, streamRules, streamOk, relocOf, sectionOf, symbolKind, symbolOf, byteOrder, statedBy, objectOf, hasBtf, depositRefusal, loadDeposit}
 use Rattle.model.specs.PatchList.{patchFrom, patchesOf}
 use Rattle.model.specs.ProgramNumbers.{variantOf}
-use Rattle.model.specs.Lent.{placed, sectionRow, programRow, functionRow, mapRow, relocationRow, bytesOf, sectionsAt, programsAt, functionsAt, codeStart, mapsAt, ownStart, summaryOf, Lent, imageOf, Room, fitsIn, filledTo, zeroed, Outcome, loadOf}
+use Rattle.model.specs.Lent.{placed, sectionRow, programRow, functionRow, mapRow, relocationRow, bytesOf, sectionsAt, programsAt, functionsAt, codeStart, mapsAt, ownStart, summaryOf, imageOf, Room, fitsIn, filledTo, zeroed, Outcome, loadOf}
 use Rattle.model.specs.ReadBack.{programFrom, kindFrom, sectionFrom, programRead, functionRead, mapRead, relocationRead, readBack}
 use Rattle.model.specs.Listing.{digits, line, variantName, programLine, functionLine, mapLine, catalogueText, refusalText, textOf, listingOf}
 use Rattle.worked.specs.Write.{sectionBytes, symbolBytes, sum, blocksFrom, blocks, deposit}

@@ -1,12 +1,10 @@
 -- The demands' two files: one whose card is the same each run, and one with two symbols called `rate`.
 use mathlib.Core.Path.{_≡_, refl}
-use mathlib.Core.Bool.{true, false}
+use mathlib.Core.Bool.{false}
 use mathlib.Core.List.{List, [], _∷_, _++_}
 use Prim.Native.Nat.{ℕ}
-use Rattle.model.specs.Patching.{Verdict}
-use Rattle.model.specs.Catalogue.{Catalogue}
 use Rattle.model.specs.declared.EbpfSectionKind.{EbpfSectionKind as Kind}
-use Rattle.worked.specs.Write.{Sec, text, plain, func, global, deposit}
+use Rattle.worked.specs.Write.{text, plain, func, global, deposit}
 use Rattle.worked.specs.Run.{loaded, listed, lines, catalogueIn, no, patch, words, dataMapOf, room}
 
 abbrev exit : List ℕ

@@ -1,5 +1,5 @@
 -- `deposit_test::find` is safe and ends.
-use Prim.Native.Nat.{_-_, _*_, _^_, _<_, _≤_}
+use Prim.Native.Nat.{_-_, _≤_}
 use lib.ListN.{length}
 use borrow.Author.Needs.{needs}
 use Rattle.deposit_test.proofs.find.Statement.{statement}

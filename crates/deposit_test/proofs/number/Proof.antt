@@ -1,5 +1,5 @@
 -- `deposit_test::number` is safe and ends.
-use Prim.Native.Nat.{_-_, _*_, _^_, _<_, _≤_}
+use Prim.Native.Nat.{_-_, _≤_}
 use mathlib.Core.Logic.{⊎-elim}
 use native.Mathlib.Omega.{arith}
 use lib.ListN.{length}

@@ -1,6 +1,6 @@
 -- `deposit_test::put_each` is safe and ends.
 use mathlib.Core.Path.{_≡_}
-use Prim.Native.Nat.{_-_, _*_, _^_, _<_, _≤_}
+use Prim.Native.Nat.{_-_, _^_, _<_, _≤_}
 use lib.ListN.{length}
 use borrow.Author.Needs.{needs}
 use Rattle.deposit_test.proofs.put_each.Statement.{statement}

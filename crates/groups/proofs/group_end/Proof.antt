@@ -1,8 +1,8 @@
 -- `groups::group_end` meets its contract: those passed so far are those of k.
-use Prim.Native.Nat.{_+_, _-_, _<_, _≤_}
+use Prim.Native.Nat.{_-_, _≤_}
 use mathlib.Core.Path.{_≡_, sym, ap, _∙_}
 use denote.Ref.{now}
-use lib.ListN.{length, getD}
+use lib.ListN.{length}
 use lib.Seq.{slice}
 use native.Mathlib.Omega.{arith}
 use borrow.Author.Needs.{needs}

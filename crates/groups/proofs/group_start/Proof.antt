@@ -1,8 +1,8 @@
 -- `groups::group_start` meets its contract: those passed so far are below k.
-use Prim.Native.Nat.{_+_, _-_, _<_, _≤_}
-use mathlib.Core.Path.{_≡_, sym, ap, _∙_}
+use Prim.Native.Nat.{_-_, _<_, _≤_}
+use mathlib.Core.Path.{ap}
 use denote.Ref.{now}
-use lib.ListN.{length, getD}
+use lib.ListN.{length}
 use lib.Seq.{slice}
 use native.Mathlib.Omega.{arith}
 use borrow.Author.Needs.{needs}

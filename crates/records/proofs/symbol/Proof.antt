@@ -1,5 +1,4 @@
 -- `records::symbol` meets its contract: its fields are the numbers that were read, the last ones taken from one number.
-use mathlib.Core.Path.{_≡_}
 use Prim.Native.Nat.{ℕ, _+_, _*_, _<_}
 use native.Mathlib.Omega.{arith}
 use denote.Ref.{now}

@@ -1,7 +1,7 @@
 -- `rules::symbols_ok` meets its contract: the records passed keep their rules, so that all do where those to go do.
 use mathlib.Core.Path.{_≡_, sym, ap, _∙_}
-use mathlib.Core.Bool.{Bool, true, _&&_, _||_}
-use Prim.Native.Nat.{ℕ, _+_, _-_, _<_, _≤_}
+use mathlib.Core.Bool.{_&&_}
+use Prim.Native.Nat.{_+_, _-_, _<_}
 use native.Mathlib.Omega.{arith}
 use denote.Ref.{now}
 use borrow.Author.Tests.{lt-ltb, le-ltb, not-true, not-false}
