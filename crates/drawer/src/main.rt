@@ -2,9 +2,17 @@
 use libc::STDOUT_FILENO;
 use model::BpfInsn;
 use model::Endianness;
+use model::Extent;
+use model::Head;
 use model::ParsedLicense;
 use model::ParsedProgramSection;
 use model::ParsedVersion;
+use model::SectionIndex;
+use model::SectionRecord;
+use model::SymbolIndex;
+use model::SymbolRecord;
+use text::ParsedText;
+use view::Checked;
 
 fn line(name: &[u8], expected: u64, got: u64) {
     io::write_all(STDOUT_FILENO, name);
@@ -125,18 +133,77 @@ fn names() {
     );
 }
 
-// 15 where the length is no multiple of 8.
-fn code(size: u64) -> u64 {
-    if insn::invalid_program_code(size) {
-        15
-    } else {
-        0
+// A text of so many bytes.
+fn text_section(length: u32) -> SectionRecord {
+    let none = Extent { at: 0, length: 0 };
+    SectionRecord {
+        index: SectionIndex(1),
+        mark: 1,
+        name: none,
+        address: 0,
+        size: stream::wide64(length),
+        bytes: Extent { at: 0, length },
+        relocations: none,
     }
 }
 
-fn lengths() {
-    line(b"function of 12 bytes", 15, code(12));
-    line(b"function of 16 bytes", 0, code(16));
+// A symbol of a size at its start.
+fn text_symbol(size: u64) -> SymbolRecord {
+    SymbolRecord {
+        index: SymbolIndex(1),
+        section: SectionIndex(1),
+        name: Extent { at: 0, length: 0 },
+        address: 0,
+        size,
+        kind: 1,
+        definition: 1,
+        reserved: 0,
+    }
+}
+
+// What refuses a symbol of a size in a text of 16 bytes.
+fn text_number(size: u64) -> u64 {
+    match text::invalid_symbol(text_section(16), text_symbol(size), 0) {
+        Checked::Fine => 0,
+        Checked::Refused(r) => stream::wide64(r.number),
+    }
+}
+
+// How many functions an empty text of an object without symbols gives; 100 where it is refused.
+fn empty_text() -> u64 {
+    let h = Head {
+        order: 0,
+        sections: 0,
+        symbols: 0,
+        relocations: 0,
+        names: 0,
+        bytes: 0,
+        reserved: 0,
+    };
+    let mut numbers = [0u32; 1];
+    let parsed = text::parse_text_section(
+        b"",
+        0,
+        h,
+        text_section(0),
+        &[0u32; 1],
+        0,
+        0,
+        &mut numbers,
+        0,
+    );
+    match parsed {
+        ParsedText::Functions(n) => n as u64,
+        ParsedText::Refused(_) => 100,
+    }
+}
+
+fn texts() {
+    line(b"text of 16, size 16", 0, text_number(16));
+    line(b"text of 16, size 12", 15, text_number(12));
+    line(b"text of 16, size 24", 14, text_number(24));
+    line(b"text of 16, size 0", 13, text_number(0));
+    line(b"functions of an empty text", 0, empty_text());
 }
 
 // The immediate, of those that the examples have.
@@ -169,6 +236,6 @@ fn main() {
     versions();
     records();
     names();
-    lengths();
+    texts();
     rewriting();
 }

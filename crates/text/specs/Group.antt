@@ -12,7 +12,8 @@ use Rattle.model.specs.declared.Head.{Head}
 use Rattle.model.specs.Bytes.{push, keep}
 use Rattle.model.specs.Object.{Section}
 use Rattle.model.specs.Deposit.{byteOrder}
-use Rattle.plan.specs.ByNumber.{isDefinedText, textOrder}
+use Rattle.orders.specs.Sort.{sorted}
+use Rattle.plan.specs.ByNumber.{isDefinedText, members, textMembers, textOrder}
 use Rattle.view.specs.View.{symbolIn, sectionIn}
 
 module _ (d : List ℕ) (gap : ℕ) (h : Head) where
@@ -30,6 +31,11 @@ module _ (d : List ℕ) (gap : ℕ) (h : Head) where
   pub group-end : (order : List ℕ) (k hi : ℕ) → hi ≤ k → k ≤ hi → textGroup order k hi ≡ []
   unfolding textGroup keep
   group-end order k hi p q = let e : k ≡ hi = omega arith in rw (e, slice-empty)
+
+  -- the group of no symbols is a section's text in an object that has none
+  pub no-text : (s : Section) (order : List ℕ) → h .symbols ≡ 0 → textGroup order 0 0 ≡ textIn s
+  unfolding textOrder textMembers members keep sorted tab textGroup
+  no-text s order e = rw e (group-end order 0 0 (omega arith) (omega arith))
 
   module _ (order : List ℕ) (k hi : ℕ) (p : k < hi) (q : hi ≤ length order) where
     next : textGroup order k hi

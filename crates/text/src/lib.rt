@@ -121,7 +121,7 @@ fn unknown_symbol(s: SectionRecord) -> ParsedText
 }
 
 // 13 to 15 of the symbol met at an offset of the data.
-fn invalid_symbol(s: SectionRecord, y: SymbolRecord, offset: u64) -> Checked
+pub fn invalid_symbol(s: SectionRecord, y: SymbolRecord, offset: u64) -> Checked
     requires { ⌜ offset ≤ s .bytes .length ⌝ }
     ensures { λ r. ⌜ r ≡ checkedOf (invalidSymbol s y offset) ⌝ }
 {

@@ -1,0 +1,47 @@
+-- `drawer::empty_text` meets its contract: no symbols, so the group is empty.
+use mathlib.Core.Path.{refl}
+use Rattle.text.specs.Group.{no-text}
+use borrow.Author.Needs.{needs}
+use Rattle.drawer.proofs.empty_text.Statement.{statement}
+use Rattle.drawer.proofs.empty_text.Tie as tie
+
+slice-aggregate-parse-text-section : tie.Need-slice-aggregate-parse-text-section
+slice-aggregate-parse-text-section c = search needs
+
+text-section-requires : tie.Need-text-section-requires
+text-section-requires c κs = search needs
+
+slice-aggregate-parse-text-section-2 : tie.Need-slice-aggregate-parse-text-section-2
+slice-aggregate-parse-text-section-2 c = search needs
+
+slice-aggregate-parse-text-section-3 : tie.Need-slice-aggregate-parse-text-section-3
+slice-aggregate-parse-text-section-3 c = search needs
+
+parse-text-section-requires : tie.Need-parse-text-section-requires
+parse-text-section-requires c κs = (search needs, no-text _ _ _ _ _ refl)
+
+enum-known-parsed : tie.Need-enum-known-parsed
+enum-known-parsed c = search needs
+
+enum-told : tie.Need-enum-told
+enum-told c = search needs
+
+returns : tie.Need-returns
+returns c = search needs
+
+returns-2 : tie.Need-returns-2
+returns-2 c = search needs
+
+pub empty-text-spec : {M : Type 1} → statement M
+empty-text-spec =
+    tie.close
+    (tie.spec
+    slice-aggregate-parse-text-section
+    text-section-requires
+    slice-aggregate-parse-text-section-2
+    slice-aggregate-parse-text-section-3
+    parse-text-section-requires
+    enum-known-parsed
+    enum-told
+    returns
+    returns-2)
