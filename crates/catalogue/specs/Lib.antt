@@ -1,0 +1,2 @@
+-- The catalogue of a deposit's object, by record numbers.
+pub mod Numbers
