@@ -17,7 +17,7 @@ use Rattle.model.specs.SectionKind.{isKind, kindOf}
 use Rattle.model.specs.Table.{tableOf}
 use Rattle.plan.specs.ByNumber.{rawSection}
 use Rattle.plan.specs.FunctionsMaps.{functionsIn, functionIn, functions-are, mapsIn, mapIn, mapName, maps-are}
-use Rattle.plan.specs.Relocations.{Runs, relocationsIn, relocations-are}
+use Rattle.plan.specs.Relocations.{Runs, keeps, relocationsIn, relocations-are}
 use Rattle.plan.specs.SectionsPrograms.{home, sectionsIn, entryIn, sections-are, programsIn, programIn, programs-are, Rising}
 use Rattle.records.specs.Records.{sectionAt, symbolAt, relocationAt}
 use Rattle.view.specs.View.{sectionFrom, symbolFrom, sectionIn, symbolIn, relocIn, nameIn, objectIn}
@@ -155,9 +155,13 @@ module _ (d : List ℕ) (gap : ℕ) (h : Head) where
   abbrev pub relocationsFrom : ℕ → List Relocation
   relocationsFrom = relocationsIn order (sectionIn d gap h) (h .sections) (symbolIn d gap h) (h .symbols) (relocIn d gap h) firstOf countOf
 
-  -- no section is refused with 4
+  -- whether a section keeps its relocations
+  abbrev pub keepsAt : ℕ → Bool
+  keepsAt = keeps order (sectionIn d gap h) (h .sections) (symbolIn d gap h) (h .symbols) (relocIn d gap h) firstOf countOf
+
+  -- no section that keeps any is refused with 4
   abbrev pub Targeted : Type 0
-  Targeted = (i : ℕ) → i < h .sections → (k : ℕ) → k < countOf i → isSome (relocIn d gap h (firstOf i + k) .symbol) ≡ true
+  Targeted = (i : ℕ) → i < h .sections → keepsAt i ≡ true → (k : ℕ) → k < countOf i → isSome (relocIn d gap h (firstOf i + k) .symbol) ≡ true
 
   pub relocations-by : Rises → Targeted → catalogueOf (objectIn d gap h) .relocations ≡ rows relocationsFrom (h .sections)
   unfolding objectIn sectionFrom
