@@ -1,10 +1,10 @@
 -- The record numbers of each table of the catalogue, and what a number stands for.
 use mathlib.Core.Path.{_≡_, refl, sym, ap, _∙_}
-use mathlib.Core.Bool.{Bool, true, false, cond, _||_}
+use mathlib.Core.Bool.{Bool, true, false, cond}
 use mathlib.Core.List.{List, [], _∷_, map}
-use Prim.Native.Nat.{ℕ, _+_, _-_, _<_, _≤_}
+use Prim.Native.Nat.{ℕ, _+_, _-_, _<_}
 use lib.Dec.{ltb}
-use Rattle.lists.specs.Tab.{tab, rows}
+use Rattle.lists.specs.Tab.{rows}
 use Rattle.model.specs.declared.Endianness.{Endianness}
 use Rattle.model.specs.declared.Head.{Head}
 use Rattle.model.specs.declared.EbpfSectionKind.{EbpfSectionKind as Kind}
@@ -17,10 +17,10 @@ use Rattle.model.specs.SectionKind.{isKind, kindOf}
 use Rattle.model.specs.Table.{tableOf}
 use Rattle.plan.specs.ByNumber.{rawSection}
 use Rattle.plan.specs.FunctionsMaps.{functionsIn, functionIn, functions-are, mapsIn, mapIn, mapName, maps-are}
-use Rattle.plan.specs.Relocations.{Runs, keeps, relocationsIn, relocations-are}
+use Rattle.plan.specs.Relocations.{keeps, relocationsIn, relocations-are}
 use Rattle.plan.specs.SectionsPrograms.{home, sectionsIn, entryIn, sections-are, programsIn, programIn, programs-are, Rising}
-use Rattle.records.specs.Records.{sectionAt, symbolAt, relocationAt}
-use Rattle.view.specs.View.{sectionFrom, symbolFrom, sectionIn, symbolIn, relocIn, nameIn, objectIn}
+use Rattle.records.specs.Records.{sectionAt, symbolAt}
+use Rattle.view.specs.View.{sectionFrom, symbolFrom, sectionIn, symbolIn, relocIn, objectIn}
 use Rattle.keys.specs.declared.By.{By}
 use Rattle.keys.specs.Keys.{keyOf, nameAt, mapNameAt}
 use Rattle.groups.specs.Cut.{raw-is}

@@ -33,7 +33,7 @@ use Rattle.guarantees.specs.TextJoined.{text-is-its-functions}
 
 -- ---- kinds
 
-kind-is : (k m : Kind) → isKind k m ≡ true → m ≡ k
+pub kind-is : (k m : Kind) → isKind k m ≡ true → m ≡ k
 kind-is k m e = sym (kind-back m) ∙ ap kindFrom (sym (eqb-true (kindNumber k) (kindNumber m) e)) ∙ kind-back k
 
 -- a kind is the name's, or a program section's where the name has none

@@ -88,7 +88,7 @@ all-more : (m n : ℕ) (l : List ℕ) → m ≤ n → All (λ j. j < m) l → Al
 all-more m n [] h a = tt
 all-more m n (j ∷ l) h a = let p : j < m = a .0 in (omega arith, all-more m n l h (a .1))
 
-all-below : (n : ℕ) → All (λ j. j < n) (upTo n)
+pub all-below : (n : ℕ) → All (λ j. j < n) (upTo n)
 unfolding tab
 all-below zero = tt
 all-below (suc n) = let h : n < suc n = omega arith in all-append (λ j. j < suc n) (upTo n) (n ∷ []) (all-more n (suc n) (upTo n) (omega arith) (all-below n)) (h, tt)

@@ -1,0 +1,1 @@
+// What patching and rewriting leave of a catalogue as it is lent. No code stands here.
