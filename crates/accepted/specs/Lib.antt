@@ -1,2 +1,3 @@
 -- What holds of the record numbers of an object that is not refused.
+pub mod Readable
 pub mod Numbers
