@@ -18,6 +18,7 @@ module _ (d : List ℕ) (gap : ℕ) (h : Head) where
 
   pub record Readable : Type 0 where
     pub gap-small : gap ≤ 4
+    pub short : length d ≤ 16777216
     pub few-sections : h .sections ≤ 4096
     pub few-symbols : h .symbols ≤ 65536
     pub few-relocations : h .relocations ≤ 65536
@@ -37,6 +38,7 @@ readable d h a =
     let inside : 32 + 48 * h .sections + 40 * h .symbols + 16 * h .relocations + h .names + h .bytes ≤ length d / 512 * 508 = a .inside in
     record {
       gap-small = omega arith;
+      short = a .frame .most;
       few-sections = a .few-sections;
       few-symbols = a .few-symbols;
       few-relocations = a .few-relocations;

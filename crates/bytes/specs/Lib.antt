@@ -1,0 +1,3 @@
+-- The bytes of a lent catalogue by record numbers: what each part is, and where it begins.
+pub mod Parts
+pub mod Licence
