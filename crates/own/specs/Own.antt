@@ -1,12 +1,16 @@
 -- The bytes that a map owns, by its number: those of its section's data, or zeros.
-use mathlib.Core.Path.{_≡_, refl}
+use mathlib.Core.Path.{_≡_, refl, ap, _∙_}
 use mathlib.Core.Bool.{Bool, true, false, cond}
-use mathlib.Core.List.{List, []}
-use Prim.Native.Nat.{ℕ, _<_, _≤_}
+use mathlib.Core.List.{List, [], _++_}
+use mathlib.Core.Logic.{_⊎_, inl, inr, ⊎-elim}
+use Prim.Native.Nat.{ℕ, _+_, _-_, _<_, _≤_}
 use native.Mathlib.Omega.{arith}
 use borrow.Author.Tests.{lt-ltb, le-ltb, ltb-true}
 use lib.Dec.{ltb}
-use lib.ListN.{replicate}
+use lib.ListN.{length, take, drop, replicate, length-replicate}
+use lib.Seq.{drop-drop}
+use Rattle.lists.specs.Part.{length-part}
+use Rattle.model.specs.declared.Extent.{Extent}
 use Rattle.model.specs.declared.Head.{Head}
 use Rattle.model.specs.declared.SectionRecord.{SectionRecord}
 use Rattle.model.specs.declared.EbpfSectionKind.{EbpfSectionKind as Kind}
@@ -14,10 +18,12 @@ use Rattle.model.specs.Contents.{dataMap, legacyMap}
 use Rattle.model.specs.Deposit.{byteOrder}
 use Rattle.model.specs.Lent.{mapOwn}
 use Rattle.model.specs.SectionKind.{isKind, kindOf}
-use Rattle.records.specs.Records.{sectionAt}
+use Rattle.stream.specs.Stream.{place, length-bytes}
+use Rattle.records.specs.Records.{dataAt, sectionAt}
 use Rattle.plan.specs.FunctionsMaps.{mapOf}
 use Rattle.view.specs.View.{dataIn, sectionFrom, sectionIn, symbolIn}
 use Rattle.catalogue.specs.Numbers.{mapAt}
+use Rattle.pieces.specs.Inside.{DataPlaced}
 use Rattle.own.specs.declared.Own.{Own}
 
 module _ (d : List ℕ) (gap : ℕ) (h : Head) where
@@ -63,16 +69,57 @@ module _ (d : List ℕ) (gap : ℕ) (h : Head) where
   unfolding ownOf
   symbol-own n l = rw (le-ltb n (h .sections) l)
 
-  -- a map that owns zeros is a section's
-  zeros-of : (n m : ℕ) → Own.Zeros m ≡ ownOf n → (n < h .sections) × (m ≡ sectionAt d gap n .size)
-  unfolding ownOf
-  zeros-of n m e = go (ltb n (h .sections)) (isKind Kind.Bss (kindOf (sectionIn d gap h n))) refl e
-    where
-      go : (b c : Bool) → ltb n (h .sections) ≡ b → Own.Zeros m ≡ cond b (cond c (Own.Zeros (sectionAt d gap n .size)) (Own.Bytes (sectionAt d gap n .bytes))) Own.Nothing
-          → (n < h .sections) × (m ≡ sectionAt d gap n .size)
-      go true true t f = (ltb-true _ _ t, cc)
-      go true false t f = let z : _≡_ {A = ℕ} 0 1 = cc in absurd (omega arith)
-      go false c t f = let z : _≡_ {A = ℕ} 0 1 = cc in absurd (omega arith)
+  -- ---- what it owns is known
 
-  pub zeros-small : (n m : ℕ) → Own.Zeros m ≡ ownOf n → Sized → m ≤ 16777216
-  zeros-small n m e s = let z = zeros-of n m e in rw (z .1) (s n (z .0))
+  module _ (n : ℕ) where
+    pub nothing-bytes : Own.Nothing ≡ ownOf n → ownBytes n ≡ []
+    nothing-bytes e = own-is n ∙ rw (← e)
+
+    pub zeros-bytes : (m : ℕ) → Own.Zeros m ≡ ownOf n → ownBytes n ≡ replicate m 0
+    zeros-bytes m e = own-is n ∙ rw (← e)
+
+    pub zeros-length : (m : ℕ) → Own.Zeros m ≡ ownOf n → length (ownBytes n) ≡ m
+    zeros-length m e = ap length (zeros-bytes m e) ∙ length-replicate m 0
+
+    pub data-bytes : (x : Extent) → Own.Bytes x ≡ ownOf n → ownBytes n ≡ dataIn d gap h x
+    data-bytes x e = own-is n ∙ rw (← e)
+
+    pub data-length : (x : Extent) → Own.Bytes x ≡ ownOf n → length (ownBytes n) ≡ x .length
+    data-length x e = ap length (data-bytes x e) ∙ length-bytes d gap (dataAt h + x .at) (x .length)
+
+    -- a map that owns anything is a section's
+    section-owns : (w : Own) → w ≡ ownOf n → (w ≡ Own.Nothing → ⊥) → n < h .sections
+    unfolding ownOf
+    section-owns w e some = go (ltb n (h .sections)) refl e
+      where
+        go : (b : Bool) → ltb n (h .sections) ≡ b
+            → w ≡ cond b (cond (isKind Kind.Bss (kindOf (sectionIn d gap h n))) (Own.Zeros (sectionAt d gap n .size)) (Own.Bytes (sectionAt d gap n .bytes))) Own.Nothing
+            → n < h .sections
+        go true t f = ltb-true _ _ t
+        go false t f = absurd (some f)
+
+    one-of : n < h .sections → (w : Own) → w ≡ ownOf n → (w ≡ Own.Zeros (sectionAt d gap n .size)) ⊎ (w ≡ Own.Bytes (sectionAt d gap n .bytes))
+    unfolding ownOf
+    one-of l w e = go (isKind Kind.Bss (kindOf (sectionIn d gap h n))) (e ∙ rw (lt-ltb n (h .sections) l))
+      where
+        go : (b : Bool) → w ≡ cond b (Own.Zeros (sectionAt d gap n .size)) (Own.Bytes (sectionAt d gap n .bytes))
+            → (w ≡ Own.Zeros (sectionAt d gap n .size)) ⊎ (w ≡ Own.Bytes (sectionAt d gap n .bytes))
+        go true f = inl f
+        go false f = inr f
+
+    pub zeros-small : (m : ℕ) → Own.Zeros m ≡ ownOf n → Sized → m ≤ 16777216
+    zeros-small m e s =
+        let l = section-owns (Own.Zeros m) e (λ q. let z : _≡_ {A = ℕ} 0 1 = cc in omega arith) in
+        ⊎-elim (λ q. let f : m ≡ sectionAt d gap n .size = cc in rw f (s n l)) (λ q. let z : _≡_ {A = ℕ} 0 1 = cc in absurd (omega arith)) (one-of l (Own.Zeros m) e)
+
+    pub data-placed : (x : Extent) → Own.Bytes x ≡ ownOf n → DataPlaced d gap h → place gap (dataAt h + x .at + x .length) ≤ length d
+    data-placed x e placed =
+        let l = section-owns (Own.Bytes x) e (λ q. let z : _≡_ {A = ℕ} 0 1 = cc in omega arith) in
+        ⊎-elim (λ q. let z : _≡_ {A = ℕ} 0 1 = cc in absurd (omega arith)) (λ q. let f : x ≡ sectionAt d gap n .bytes = cc in rw f (placed n l)) (one-of l (Own.Bytes x) e)
+
+-- zeros over a part of a list
+pub zeros-laid : (at len : ℕ) (t ys : List ℕ) → at + len ≤ length t → ys ≡ replicate (length (take (at + len - at) (drop at t))) 0
+    → take at t ++ (ys ++ drop (at + len - at) (drop at t)) ≡ take at t ++ (replicate len 0 ++ drop (at + len) t)
+zeros-laid at len t ys room e =
+    let f : at + len - at ≡ len = omega arith in
+    rw (e, f, length-part t at len room, drop-drop len at t)

@@ -1,10 +1,9 @@
 -- `own::own_length` meets its contract: by what the map owns.
 use mathlib.Core.Path.{sym, ap, _∙_}
 use native.Mathlib.Omega.{arith}
-use lib.ListN.{length, length-replicate}
+use lib.ListN.{length}
 use denote.Ref.{now}
-use Rattle.stream.specs.Stream.{length-bytes}
-use Rattle.own.specs.Own.{own-is, zeros-small}
+use Rattle.own.specs.Own.{nothing-bytes, zeros-length, zeros-small, data-length}
 use borrow.Author.Needs.{needs}
 use Rattle.own.proofs.own_length.Statement.{statement}
 use Rattle.own.proofs.own_length.Tie as tie
@@ -29,21 +28,21 @@ returns c =
     let a = c .before .before .before .before .args in
     let w = c .before .before .own-of in
     let e = sym (c .enum-told .given .1) ∙ w .ensures in
-    (sym (ap length (own-is (now (a .d)) (a .gap) (a .h) (a .n)) ∙ rw (← e)), λ s. omega arith)
+    (sym (ap length (nothing-bytes (now (a .d)) (a .gap) (a .h) (a .n) e)), λ s. omega arith)
 
 returns-2 : tie.Need-returns-2
 returns-2 c =
     let a = c .before .before .before .before .before .args in
     let w = c .before .before .before .own-of in
     let e = sym (c .before .len .given .1) ∙ w .ensures in
-    (sym (ap length (own-is (now (a .d)) (a .gap) (a .h) (a .n)) ∙ rw (← e) (length-replicate _ _)), λ s. omega (arith, zeros-small (now (a .d)) (a .gap) (a .h) (a .n) _ e s))
+    (sym (zeros-length (now (a .d)) (a .gap) (a .h) (a .n) _ e), λ s. omega (arith, zeros-small (now (a .d)) (a .gap) (a .h) (a .n) _ e s))
 
 returns-3 : tie.Need-returns-3
 returns-3 c =
     let a = c .before .before .before .before .before .before .args in
     let w = c .before .before .before .before .own-of in
     let e = sym (c .before .before .e .given .1) ∙ w .ensures in
-    (c .size .ensures .0 ∙ sym (ap length (own-is (now (a .d)) (a .gap) (a .h) (a .n)) ∙ rw (← e) (length-bytes _ _ _ _)), λ s. omega arith)
+    (c .size .ensures .0 ∙ sym (data-length (now (a .d)) (a .gap) (a .h) (a .n) _ e), λ s. omega arith)
 
 pub own-length-spec : {M : Type 1} → statement M
 own-length-spec =
