@@ -9,7 +9,8 @@ use borrow.Author.Needs.{needs}
 use lib.ListN.{length, getD, take, drop}
 use Rattle.lists.specs.Slice.{put-none}
 use Rattle.model.specs.Bytes.{each}
-use Rattle.plan.specs.Placed.{each-more, each-longer, each-room, lay-more}
+use Rattle.plan.specs.Placed.{each-room}
+use Rattle.pieces.specs.Laid.{next-end, next-laid}
 use Rattle.pieces.specs.Pieces.{pieceOf, piece-length, piece-bytes, piece-placed}
 use Rattle.pieces.proofs.put.Statement.{statement}
 use Rattle.pieces.proofs.put.Tie as tie
@@ -100,14 +101,13 @@ loop-again c =
     let f = pieceOf (a .which) (now (a .d)) (a .gap) (a .h) in
     let e = piece-bytes (a .which) (now (a .d)) (a .gap) (a .h) j (x .result) (x .ensures) p m (omega arith) (omega arith) in
     let len = name-length (c .before .before .before .before) in
+    let end : l .loop .o + m ≡ l .loop .o + length (f j) = omega (arith, len) in
     let h : l .loop .k < length (now (a .order)) = omega arith in (
       omega arith,
       c .before .before .copy-stream .kept .1 .1 .1 .1 .0 ∙ l .loop .inv .1,
-      omega (arith, len, each-longer f (now (a .order)) 0 (l .loop .k) h),
-      c .before .before .copy-stream .ensures
-          ∙ rw (e, l .loop .inv .3)
-          (lay-more (a .at) (l .loop .o) m (each f (take (l .loop .k) (now (a .order)))) (f j) (now (a .out)) (l .loop .inv .2) len (name-room (c .before .before .before .before))
-          ∙ rw (each-more f (now (a .order)) 0 (l .loop .k) h)),
+      next-end f (now (a .order)) (a .at) (l .loop .k) (l .loop .o) (l .loop .inv .2) (l .loop .o + m) h end,
+      next-laid f (now (a .order)) (a .at) (l .loop .k) (l .loop .o) (l .loop .inv .2) (l .loop .o + m) h end (now (a .out)) (l .loop .out) _
+          (name-room (c .before .before .before .before)) (l .loop .inv .3) (c .before .before .copy-stream .ensures ∙ rw e),
     )
 
 same-length : tie.Need-same-length Inv-loop μ-loop
