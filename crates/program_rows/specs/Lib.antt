@@ -1,0 +1,2 @@
+-- What the contracts of `program_rows` cite.
+pub mod Rows
