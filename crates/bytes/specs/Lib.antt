@@ -1,3 +1,4 @@
 -- The bytes of a lent catalogue by record numbers: what each part is, and where it begins.
 pub mod Parts
 pub mod Licence
+pub mod Bounds

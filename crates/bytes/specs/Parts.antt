@@ -31,15 +31,6 @@ use Rattle.accepted.specs.Readable.{Readable}
 use Rattle.pieces.specs.declared.Piece.{Piece}
 use Rattle.pieces.specs.Pieces.{extentOf, pieceOf, section-piece, symbol-piece, map-piece}
 
--- an upper bound for what is laid one after the other
-pub each-bound : (f : ℕ → List ℕ) (b : ℕ) (l : List ℕ) → All (λ j. length (f j) ≤ b) l → length (each f l) ≤ length l * b
-unfolding each
-each-bound f b [] a = omega arith
-each-bound f b (x ∷ l) a =
-    let p : length (f x) ≤ b = a .0 in
-    let q : length (each f l) ≤ length l * b = each-bound f b l (a .1) in
-    rw (length-append (f x) (each f l), suc-mul (length l) b) (omega arith)
-
 module _ (d : List ℕ) (gap : ℕ) (h : Head) where
   abbrev pub catalogue : Catalogue
   catalogue = catalogueOf (objectIn d gap h)

@@ -112,10 +112,14 @@ module _ (d : List ℕ) (gap : ℕ) (h : Head) where
         let l = section-owns (Own.Zeros m) e (λ q. let z : _≡_ {A = ℕ} 0 1 = cc in omega arith) in
         ⊎-elim (λ q. let f : m ≡ sectionAt d gap n .size = cc in rw f (s n l)) (λ q. let z : _≡_ {A = ℕ} 0 1 = cc in absurd (omega arith)) (one-of l (Own.Zeros m) e)
 
-    pub data-placed : (x : Extent) → Own.Bytes x ≡ ownOf n → DataPlaced d gap h → place gap (dataAt h + x .at + x .length) ≤ length d
-    data-placed x e placed =
+    -- what holds of each section's data
+    pub data-section : (P : Extent → Type 0) (x : Extent) → Own.Bytes x ≡ ownOf n → ((i : ℕ) → i < h .sections → P (sectionAt d gap i .bytes)) → P x
+    data-section P x e all =
         let l = section-owns (Own.Bytes x) e (λ q. let z : _≡_ {A = ℕ} 0 1 = cc in omega arith) in
-        ⊎-elim (λ q. let z : _≡_ {A = ℕ} 0 1 = cc in absurd (omega arith)) (λ q. let f : x ≡ sectionAt d gap n .bytes = cc in rw f (placed n l)) (one-of l (Own.Bytes x) e)
+        ⊎-elim (λ q. let z : _≡_ {A = ℕ} 0 1 = cc in absurd (omega arith)) (λ q. let f : x ≡ sectionAt d gap n .bytes = cc in rw f (all n l)) (one-of l (Own.Bytes x) e)
+
+    pub data-placed : (x : Extent) → Own.Bytes x ≡ ownOf n → DataPlaced d gap h → place gap (dataAt h + x .at + x .length) ≤ length d
+    data-placed x e = data-section (λ y. place gap (dataAt h + y .at + y .length) ≤ length d) x e
 
 -- zeros over a part of a list
 pub zeros-laid : (at len : ℕ) (t ys : List ℕ) → at + len ≤ length t → ys ≡ replicate (length (take (at + len - at) (drop at t))) 0
