@@ -1,0 +1,56 @@
+-- The code of many functions, laid one after the other, is rewritten in one go.
+use mathlib.Core.Path.{_≡_, refl, _∙_}
+use mathlib.Core.Bool.{true}
+use mathlib.Core.List.{List, [], _∷_, _++_, map}
+use Prim.Native.Nat.{ℕ, zero, suc, _*_, _/_, _<_}
+use native.Mathlib.Omega.{arith}
+use lib.ListN.{length, take}
+use Rattle.model.specs.declared.Head.{Head}
+use Rattle.model.specs.Bytes.{each, AllBytes}
+use Rattle.model.specs.Catalogue.{Function}
+use Rattle.model.specs.Instruction.{instructions}
+use Rattle.model.specs.Lent.{functionCode}
+use Rattle.model.specs.Patching.{rewriteFunction}
+use Rattle.stream.specs.Stream.{byteAt}
+use Rattle.records.specs.Records.{symbolAt}
+use Rattle.insn.specs.Sanitized.{sanitized, sanitized-code, sanitized-join, length-each-eight}
+use Rattle.catalogue.specs.Numbers.{functionAt}
+use Rattle.catalogue.specs.Fits.{FunctionFits}
+use Rattle.code.specs.Code.{bytesOf, code-read, AllFit, bytes-found}
+
+-- a function whose instructions were read from bytes
+pub record Encoded (f : Function) : Type 0 where
+  pub count : ℕ
+  pub bytes : List ℕ
+  pub read : f .code ≡ instructions count bytes
+  pub long : length bytes ≡ count * 8
+  pub all : AllBytes bytes
+
+abbrev pub AllEncoded : List Function → Type 0
+AllEncoded [] = Unit {0}
+AllEncoded (f ∷ fs) = Encoded f × AllEncoded fs
+
+rewritten-one : (f : Function) → Encoded f → sanitized true (functionCode f) ≡ functionCode (rewriteFunction f)
+unfolding rewriteFunction
+rewritten-one f e = rw (e .read) (sanitized-code true (e .count) (e .bytes) (e .long) (e .all))
+
+-- all of it at once
+pub rewritten-code : (fs : List Function) → AllEncoded fs → sanitized true (each functionCode fs) ≡ each functionCode (map rewriteFunction fs)
+unfolding each sanitized instructions
+rewritten-code [] e = refl
+rewritten-code (f ∷ fs) e =
+    sanitized-join true (length (f .code)) (functionCode f) (each functionCode fs) (length-each-eight (f .code))
+    ∙ (λ k. rewritten-one f (e .0) k ++ rewritten-code fs (e .1) k)
+
+-- those of a table of numbers
+module _ (d : List ℕ) (gap : ℕ) (small : (k : ℕ) → byteAt d gap k < 256) (h : Head) where
+  encoded : (j : ℕ) → FunctionFits d gap h j → Encoded (functionAt d gap h j)
+  encoded j fits =
+      let b = bytes-found d gap small h j fits in
+      record { count = symbolAt d gap h j .size / 8; bytes = bytesOf d gap h j; read = code-read d gap h j; long = b .0; all = b .1 }
+
+  pub all-encoded : (order : List ℕ) (n : ℕ) → AllFit d gap h order n → AllEncoded (map (functionAt d gap h) (take n order))
+  all-encoded [] zero fit = tt
+  all-encoded [] (suc n) fit = tt
+  all-encoded (j ∷ order) zero fit = tt
+  all-encoded (j ∷ order) (suc n) fit = (encoded j (fit 0 (omega arith)), all-encoded order n (λ k l. fit (suc k) (omega arith)))
