@@ -1,5 +1,5 @@
 -- The code of many functions, laid one after the other, is rewritten in one go.
-use mathlib.Core.Path.{_≡_, refl, _∙_}
+use mathlib.Core.Path.{_≡_, refl, sym, ap, _∙_}
 use mathlib.Core.Bool.{true}
 use mathlib.Core.List.{List, [], _∷_, _++_, map}
 use Prim.Native.Nat.{ℕ, zero, suc, _*_, _/_, _<_}
@@ -12,11 +12,12 @@ use Rattle.model.specs.Instruction.{instructions}
 use Rattle.model.specs.Lent.{functionCode}
 use Rattle.model.specs.Patching.{rewriteFunction}
 use Rattle.stream.specs.Stream.{byteAt}
+use Rattle.plan.specs.Numbers.{each-map}
 use Rattle.records.specs.Records.{symbolAt}
 use Rattle.insn.specs.Sanitized.{sanitized, sanitized-code, sanitized-join, length-each-eight}
 use Rattle.catalogue.specs.Numbers.{functionAt}
 use Rattle.catalogue.specs.Fits.{FunctionFits}
-use Rattle.code.specs.Code.{bytesOf, code-read, AllFit, bytes-found}
+use Rattle.code.specs.Code.{codeAt, bytesOf, code-read, AllFit, bytes-found}
 
 -- a function whose instructions were read from bytes
 pub record Encoded (f : Function) : Type 0 where
@@ -54,3 +55,9 @@ module _ (d : List ℕ) (gap : ℕ) (small : (k : ℕ) → byteAt d gap k < 256)
   all-encoded [] (suc n) fit = tt
   all-encoded (j ∷ order) zero fit = tt
   all-encoded (j ∷ order) (suc n) fit = (encoded j (fit 0 (omega arith)), all-encoded order n (λ k l. fit (suc k) (omega arith)))
+
+  pub rewritten-numbers : (order : List ℕ) (n : ℕ) → AllFit d gap h order n
+      → sanitized true (each (codeAt d gap h) (take n order)) ≡ each functionCode (map rewriteFunction (map (functionAt d gap h) (take n order)))
+  rewritten-numbers order n fit =
+      ap (sanitized true) (sym (each-map functionCode (functionAt d gap h) (take n order)))
+      ∙ rewritten-code (map (functionAt d gap h) (take n order)) (all-encoded order n fit)

@@ -1,0 +1,3 @@
+-- What the contracts of `relocation_rows` cite, and the laws of their stores.
+pub mod Rows
+pub mod Stored
