@@ -1,13 +1,13 @@
 -- How many bytes the parts have at most, and that their pieces lie inside the stream.
-use mathlib.Core.Path.{_≡_, refl}
+use mathlib.Core.Path.{_≡_, refl, ap, _∙_}
 use mathlib.Core.Bool.{Bool, true, false, cond}
-use mathlib.Core.List.{List, [], _∷_, _++_}
-use Prim.Native.Nat.{ℕ, _+_, _-_, _*_, _<_, _≤_}
+use mathlib.Core.List.{List, [], _∷_}
+use Prim.Native.Nat.{ℕ, zero, suc, _+_, _-_, _*_, _/_, _<_, _≤_}
 use native.Mathlib.Nat.{suc-mul}
 use native.Mathlib.Omega.{arith}
 use borrow.Author.Tests.{ltb-true, ltb-false}
 use lib.Dec.{ltb}
-use lib.ListN.{length, getD, take, length-append}
+use lib.ListN.{length, getD, take, drop, length-append}
 use lib.Seq.{getD-take, length-take-le}
 use Rattle.model.specs.declared.Head.{Head}
 use Rattle.model.specs.Bytes.{each}
@@ -15,7 +15,11 @@ use Rattle.plan.specs.Groups.{all-at}
 use Rattle.plan.specs.SectionsPrograms.{All}
 use Rattle.stream.specs.Stream.{length-bytes}
 use Rattle.records.specs.Records.{namesAt, sectionAt, symbolAt}
-use Rattle.catalogue.specs.Fits.{MapFits}
+use Rattle.catalogue.specs.Fits.{FunctionFits}
+use Rattle.catalogue.specs.Numbers.{homeAt, functionAt}
+use Rattle.insn.specs.Sanitized.{length-each-eight}
+use Rattle.code.specs.Code.{codeAt, bytesOf, code-read}
+use Rattle.model.specs.Instruction.{instructions}
 use Rattle.accepted.specs.Readable.{Readable, NameFits}
 use Rattle.pieces.specs.declared.Piece.{Piece}
 use Rattle.pieces.specs.Inside.{Known}
@@ -29,7 +33,7 @@ all-front P n l h a k g =
     let e : getD (take n l) k 0 ≡ getD l k 0 = getD-take n l k 0 g in
     rw e at (all-at P (take n l) k a (rw (length-take-le n l h) g))
 
-all-weaken : (P Q : ℕ → Type 0) (l : List ℕ) → ((x : ℕ) → P x → Q x) → All P l → All Q l
+pub all-weaken : (P Q : ℕ → Type 0) (l : List ℕ) → ((x : ℕ) → P x → Q x) → All P l → All Q l
 all-weaken P Q [] f a = tt
 all-weaken P Q (x ∷ l) f a = (f x (a .0), all-weaken P Q l f (a .1))
 
@@ -41,6 +45,11 @@ each-bound f b (x ∷ l) a =
     let p : length (f x) ≤ b = a .0 in
     let q : length (each f l) ≤ length l * b = each-bound f b l (a .1) in
     rw (length-append (f x) (each f l), suc-mul (length l) b) (omega arith)
+
+length-instructions : (n : ℕ) (d : List ℕ) → length (instructions n d) ≡ n
+unfolding instructions
+length-instructions zero d = refl
+length-instructions (suc n) d = ap suc (length-instructions n (drop 8 d))
 
 module _ (d : List ℕ) (gap : ℕ) (h : Head) (r : Readable d gap h) where
   -- ---- names
@@ -80,3 +89,15 @@ module _ (d : List ℕ) (gap : ℕ) (h : Head) (r : Readable d gap h) where
       all : (m : List ℕ) → All (λ n. length (ownBytes d gap h n) ≤ 16777216) m
       all [] = tt
       all (n ∷ m) = (own-short n, all m)
+
+  -- ---- code
+
+  code-short : (j : ℕ) → FunctionFits d gap h j → length (codeAt d gap h j) ≤ 16777216
+  code-short j e =
+      let l : length (codeAt d gap h j) ≡ symbolAt d gap h j .size / 8 * 8 =
+      length-each-eight (functionAt d gap h j .code) ∙ ap (λ is. length is * 8) (code-read d gap h j) ∙ ap (λ n. n * 8) (length-instructions (symbolAt d gap h j .size / 8) (bytesOf d gap h j))
+      in
+      omega (arith, e .within, r .data-length (homeAt d gap h j) (e .home))
+
+  pub code-bound : (l : List ℕ) → All (FunctionFits d gap h) l → length (each (codeAt d gap h) l) ≤ length l * 16777216
+  code-bound l a = each-bound (codeAt d gap h) 16777216 l (all-weaken (FunctionFits d gap h) (λ j. length (codeAt d gap h j) ≤ 16777216) l code-short a)

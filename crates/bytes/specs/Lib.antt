@@ -2,3 +2,4 @@
 pub mod Parts
 pub mod Licence
 pub mod Bounds
+pub mod Held

@@ -1,13 +1,10 @@
 -- The parts of a lent catalogue's bytes, by the numbers of its tables.
 use mathlib.Core.Bool.{Bool, true, false, cond}
 use mathlib.Core.Path.{_≡_, refl, sym, ap, _∙_}
-use mathlib.Core.List.{List, [], _∷_}
+use mathlib.Core.List.{List}
 use mathlib.Core.Option.{none}
-use Prim.Native.Nat.{ℕ, _+_, _-_, _*_, _<_, _≤_}
-use native.Mathlib.Nat.{suc-mul}
-use native.Mathlib.Omega.{arith}
+use Prim.Native.Nat.{ℕ, _-_}
 use lib.Dec.{ltb}
-use lib.ListN.{length, length-append}
 use Rattle.lists.specs.Tab.{tab}
 use Rattle.model.specs.declared.EbpfSectionKind.{EbpfSectionKind as Kind}
 use Rattle.model.specs.declared.Head.{Head}
@@ -16,20 +13,17 @@ use Rattle.model.specs.Catalogue.{Catalogue}
 use Rattle.model.specs.Deposit.{byteOrder}
 use Rattle.model.specs.SectionKind.{isKind, kindOf}
 use Rattle.model.specs.Contents.{dataMap, legacyMap, licenceOf, catalogueOf, programAt as programOf, functionAt as functionOf, programFunction}
-use Rattle.model.specs.Lent.{sectionName, programName, functionName, functionCode, mapName, mapOwn, bytesOf, sectionsAt, programsAt, functionsAt, codeStart, mapsAt, ownStart}
+use Rattle.model.specs.Lent.{sectionName, programName, functionName, functionCode, mapName, mapOwn}
 use Rattle.model.specs.Refusals.{objectRefusal}
 use Rattle.plan.specs.Numbers.{each-map}
 use Rattle.plan.specs.FunctionsMaps.{mapOf, mapName as mapKeyName}
-use Rattle.plan.specs.SectionsPrograms.{All}
 use Rattle.plan.specs.Walk.{textFunctionOf}
-use Rattle.stream.specs.Stream.{length-bytes}
-use Rattle.records.specs.Records.{namesAt, sectionAt, symbolAt}
 use Rattle.view.specs.View.{sectionFrom, sectionIn, symbolIn, objectIn}
 use Rattle.catalogue.specs.Numbers.{homeAt, sectionNumbers, programNumbers, functionNumbers, mapNumbers, entryAt, programAt, functionAt, mapAt, Rises, sections-by, programs-by, functions-by, maps-by}
 use Rattle.accepted.specs.Numbers.{named}
 use Rattle.accepted.specs.Readable.{Readable}
 use Rattle.pieces.specs.declared.Piece.{Piece}
-use Rattle.pieces.specs.Pieces.{extentOf, pieceOf, section-piece, symbol-piece, map-piece}
+use Rattle.pieces.specs.Pieces.{pieceOf, section-piece, symbol-piece, map-piece}
 
 module _ (d : List ℕ) (gap : ℕ) (h : Head) where
   abbrev pub catalogue : Catalogue

@@ -1,16 +1,34 @@
 // The bytes of a lent catalogue: the places of its parts, and the parts laid one after the other.
 ghost use mathlib.Core.Path.{_≡_};
 ghost use mathlib.Core.List.{_++_};
+ghost use mathlib.Core.Option.{none};
 ghost use Prim.Native.Nat.{_≤_};
 ghost use lib.ListN.{length, drop};
 ghost use Rattle.model.specs.Contents.{licenceOf};
 ghost use Rattle.view.specs.View.{objectIn};
+ghost use Rattle.model.specs.Lent.{bytesOf};
+ghost use Rattle.model.specs.Refusals.{objectRefusal};
 ghost use Rattle.accepted.specs.Readable.{Readable};
+ghost use Rattle.bytes.specs.Parts.{catalogue};
+ghost use Rattle.bytes.specs.Held.{Held, At};
 use first_checks::LicenseAt;
 use first_checks::license_of;
 use lists::copy8;
 use model::Head;
+use pieces::Piece;
 use pieces::copy_stream;
+use tables::Counts;
+
+// Where the parts begin, and where the last ends.
+pub struct Places {
+    pub sections: usize,
+    pub programs: usize,
+    pub functions: usize,
+    pub code: usize,
+    pub maps: usize,
+    pub own: usize,
+    pub end: usize,
+}
 
 fn license_length(d: &[u8], gap: usize, h: Head) -> usize
     requires { ⌜ gap ≤ 4 ⌝ }
@@ -37,4 +55,61 @@ fn put_license(d: &[u8], gap: usize, h: Head, out: &mut [u8]) -> usize
             n
         }
     }
+}
+
+pub fn layout(
+    d: &[u8],
+    gap: usize,
+    h: Head,
+    n: Counts,
+    sections: &[u32],
+    programs: &[u32],
+    functions: &[u32],
+    maps: &[u32],
+) -> Places
+    requires { ⌜ Readable (now d) gap h × (objectRefusal (objectIn (now d) gap h) ≡ none) × Held (now d) gap h n (now sections) (now programs) (now functions) (now maps) ⌝ }
+    ensures { λ r. ⌜ At (catalogue (now (d .entry)) gap h) r ⌝ }
+{
+    let sections_at = license_length(d, gap, h);
+    let programs_at = sections_at
+        + pieces::total(d, gap, h, Piece::SectionName, sections, n.sections);
+    let functions_at = programs_at
+        + pieces::total(d, gap, h, Piece::SymbolName, programs, n.programs);
+    let code = functions_at + pieces::total(d, gap, h, Piece::SymbolName, functions, n.functions);
+    let maps_at = code + code::total(d, gap, h, functions, n.functions);
+    let own = maps_at + pieces::total(d, gap, h, Piece::MapName, maps, n.maps);
+    let end = own + own::total(d, gap, h, maps, n.maps);
+    Places {
+        sections: sections_at,
+        programs: programs_at,
+        functions: functions_at,
+        code: code,
+        maps: maps_at,
+        own: own,
+        end: end,
+    }
+}
+
+// All of the bytes at the front of out.
+pub fn put(
+    d: &[u8],
+    gap: usize,
+    h: Head,
+    n: Counts,
+    sections: &[u32],
+    programs: &[u32],
+    functions: &[u32],
+    maps: &[u32],
+    out: &mut [u8],
+)
+    requires { ⌜ Readable (now d) gap h × (objectRefusal (objectIn (now d) gap h) ≡ none) × Held (now d) gap h n (now sections) (now programs) (now functions) (now maps) × (length (bytesOf (catalogue (now d) gap h)) ≤ length (now out)) ⌝ }
+    ensures { λ r. ⌜ now (out .exit) ≡ bytesOf (catalogue (now (d .entry)) gap h) ++ drop (length (bytesOf (catalogue (now (d .entry)) gap h))) (now (out .entry)) ⌝ }
+{
+    let a = put_license(d, gap, h, out);
+    let b = pieces::put(d, gap, h, Piece::SectionName, sections, n.sections, out, a);
+    let c = pieces::put(d, gap, h, Piece::SymbolName, programs, n.programs, out, b);
+    let e = pieces::put(d, gap, h, Piece::SymbolName, functions, n.functions, out, c);
+    let f = code::put(d, gap, h, functions, n.functions, out, e);
+    let g = pieces::put(d, gap, h, Piece::MapName, maps, n.maps, out, f);
+    own::put(d, gap, h, maps, n.maps, out, g);
 }

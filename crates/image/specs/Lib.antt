@@ -1,0 +1,3 @@
+-- The lent tables of a catalogue by record numbers.
+pub mod Filled
+pub mod Tables

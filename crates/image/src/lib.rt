@@ -1,0 +1,75 @@
+// The lent tables of an accepted catalogue: their rows, and zeros behind.
+ghost use mathlib.Core.Path.{_≡_};
+ghost use mathlib.Core.Option.{none};
+ghost use Prim.Native.Nat.{_*_, _≤_};
+ghost use lib.ListN.{length, take};
+ghost use Rattle.model.specs.Lent.{filled, imageOf};
+ghost use Rattle.model.specs.Refusals.{objectRefusal};
+ghost use Rattle.view.specs.View.{objectIn};
+ghost use Rattle.catalogue.specs.Numbers.{sectionNumbers, programNumbers, mapNumbers};
+ghost use Rattle.accepted.specs.Readable.{Readable};
+ghost use Rattle.bytes.specs.Held.{At};
+ghost use Rattle.bytes.specs.Parts.{catalogue};
+ghost use Rattle.image.specs.Filled.{clearedFrom};
+use bytes::Places;
+use lists::zero64;
+use map_rows::put_map_rows;
+use model::Head;
+use program_rows::put_program_rows;
+use section_rows::put_section_rows;
+
+// What stands from n on becomes zero.
+pub fn clear_from(t: &mut [u64], n: usize)
+    requires { ⌜ n ≤ length (now t) ⌝ }
+    ensures { λ r. ⌜ now (t .exit) ≡ clearedFrom (now (t .entry)) n ⌝ }
+{
+    zero64(&mut t[n..]);
+}
+
+pub fn fill_sections(
+    d: &[u8],
+    gap: usize,
+    h: Head,
+    order: &[u32],
+    n: usize,
+    places: Places,
+    out: &mut [u64],
+)
+    requires { ⌜ (gap ≤ 4) × (n ≤ length (now order)) × (n ≤ 69632) × (take n (now order) ≡ sectionNumbers (now d) gap h) × At (catalogue (now d) gap h) places × (n * 4 ≤ length (now out)) ⌝ }
+    ensures { λ r. ⌜ now (out .exit) ≡ filled 0 (length (now (out .entry))) (imageOf (catalogue (now (d .entry)) gap h) .sections) ⌝ }
+{
+    put_section_rows(d, gap, order, n, places.sections, out);
+    clear_from(out, n * 4);
+}
+
+pub fn fill_programs(
+    d: &[u8],
+    gap: usize,
+    h: Head,
+    order: &[u32],
+    n: usize,
+    places: Places,
+    out: &mut [u64],
+)
+    requires { ⌜ Readable (now d) gap h × (objectRefusal (objectIn (now d) gap h) ≡ none) × (n ≤ length (now order)) × (n ≤ 69632) × (take n (now order) ≡ programNumbers (now d) gap h) × At (catalogue (now d) gap h) places × (n * 7 ≤ length (now out)) ⌝ }
+    ensures { λ r. ⌜ now (out .exit) ≡ filled 0 (length (now (out .entry))) (imageOf (catalogue (now (d .entry)) gap h) .programs) ⌝ }
+{
+    put_program_rows(d, gap, h, order, n, places.programs, out);
+    clear_from(out, n * 7);
+}
+
+pub fn fill_maps(
+    d: &[u8],
+    gap: usize,
+    h: Head,
+    order: &[u32],
+    n: usize,
+    places: Places,
+    out: &mut [u64],
+)
+    requires { ⌜ Readable (now d) gap h × (objectRefusal (objectIn (now d) gap h) ≡ none) × (n ≤ length (now order)) × (n ≤ 69632) × (take n (now order) ≡ mapNumbers (now d) gap h) × At (catalogue (now d) gap h) places × (n * 27 ≤ length (now out)) ⌝ }
+    ensures { λ r. ⌜ now (out .exit) ≡ filled 0 (length (now (out .entry))) (imageOf (catalogue (now (d .entry)) gap h) .maps) ⌝ }
+{
+    put_map_rows(d, gap, h, order, n, places.maps, places.own, out);
+    clear_from(out, n * 27);
+}
