@@ -1,0 +1,102 @@
+// The symbols that bear a name: none, one or several, by a binary search among all symbols sorted by name.
+ghost use mathlib.Core.Path.{_≡_};
+ghost use Prim.Native.Nat.{_^_, _<_, _≤_};
+ghost use lib.ListN.{length};
+ghost use Rattle.model.specs.Bytes.{same, before};
+ghost use Rattle.orders.specs.Compare.{ordering};
+ghost use Rattle.bearers.specs.Bearers.{bearerOf, bearersIn};
+ghost use Rattle.bearers.specs.Search.{First, hasAt, nameOf, byName};
+use keys::compare_name_with;
+use keys::names_at;
+use keys::symbol_name;
+use model::Head;
+use orders::Ordering;
+use stream::size;
+
+// The number of the one symbol that bears a name.
+pub enum Bearer {
+    Nobody,
+    One(u32),
+    Several,
+}
+
+// How the name of symbol j stands to a word.
+fn compare(d: &[u8], gap: usize, h: Head, j: u32, word: &[u8]) -> Ordering
+    requires { ⌜ (gap ≤ 4) × (length (now word) < 2 ^ 60) ⌝ }
+    ensures { λ r. ⌜ r ≡ ordering (nameOf (now (d .entry)) gap h j) (now (word .entry)) ⌝ }
+{
+    let name = symbol_name(d, gap, h, j);
+    let at = names_at(h) + size(name.at);
+    let n = size(name.length);
+    compare_name_with(d, gap, at, n, word)
+}
+
+fn is_before(d: &[u8], gap: usize, h: Head, j: u32, word: &[u8]) -> bool
+    requires { ⌜ (gap ≤ 4) × (length (now word) < 2 ^ 60) ⌝ }
+    ensures { λ r. ⌜ r ≡ before (nameOf (now (d .entry)) gap h j) (now (word .entry)) ⌝ }
+{
+    match compare(d, gap, h, j, word) {
+        Ordering::Less => true,
+        Ordering::Equal => false,
+        Ordering::Greater => false,
+    }
+}
+
+fn is_same(d: &[u8], gap: usize, h: Head, j: u32, word: &[u8]) -> bool
+    requires { ⌜ (gap ≤ 4) × (length (now word) < 2 ^ 60) ⌝ }
+    ensures { λ r. ⌜ r ≡ same (now (word .entry)) (nameOf (now (d .entry)) gap h j) ⌝ }
+{
+    match compare(d, gap, h, j, word) {
+        Ordering::Less => false,
+        Ordering::Equal => true,
+        Ordering::Greater => false,
+    }
+}
+
+// Whether a symbol stands at a place and bears the name.
+fn bears_at(d: &[u8], gap: usize, h: Head, order: &[u32], at: usize, word: &[u8]) -> bool
+    requires { ⌜ (gap ≤ 4) × (length (now word) < 2 ^ 60) ⌝ }
+    ensures { λ r. ⌜ r ≡ hasAt (nameOf (now (d .entry)) gap h) (now (word .entry)) (now (order .entry)) at ⌝ }
+{
+    if at < order.len() {
+        is_same(d, gap, h, order[at], word)
+    } else {
+        false
+    }
+}
+
+// The place of the first symbol whose name is not before the word, or how many there are.
+fn lower_bound(d: &[u8], gap: usize, h: Head, order: &[u32], word: &[u8]) -> usize
+    requires { ⌜ (gap ≤ 4) × (now order ≡ byName (now d) gap h) × (length (now word) < 2 ^ 60) ⌝ }
+    ensures { λ r. ⌜ First (nameOf (now (d .entry)) gap h) (now (word .entry)) (now (order .entry)) r ⌝ }
+{
+    let mut low: usize = 0;
+    let mut high: usize = order.len();
+    while low < high {
+        let middle = low + (high - low) / 2;
+        if is_before(d, gap, h, order[middle], word) {
+            low = middle + 1;
+        } else {
+            high = middle;
+        }
+    }
+    low
+}
+
+pub fn bearer_of(d: &[u8], gap: usize, h: Head, order: &[u32], word: &[u8]) -> Bearer
+    requires { ⌜ (gap ≤ 4) × (now order ≡ byName (now d) gap h) ⌝ }
+    ensures { λ r. ⌜ r ≡ bearerOf (bearersIn (now (d .entry)) gap h (now (word .entry))) ⌝ }
+{
+    // No name is as long.
+    if word.len() > 0xFFFFFFFF {
+        return Bearer::Nobody;
+    }
+    let at = lower_bound(d, gap, h, order, word);
+    if !bears_at(d, gap, h, order, at, word) {
+        return Bearer::Nobody;
+    }
+    if bears_at(d, gap, h, order, at + 1, word) {
+        return Bearer::Several;
+    }
+    Bearer::One(order[at])
+}

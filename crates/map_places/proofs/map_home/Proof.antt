@@ -1,0 +1,36 @@
+-- `map_places::map_home` meets its contract: a section's own number, or the section that the symbol lies in.
+use denote.Ref.{now}
+use mathlib.Core.Path.{_≡_, sym, ap, _∙_}
+use mathlib.Core.Bool.{true, false}
+use native.Mathlib.Omega.{arith}
+use Prim.Native.Nat.{_-_}
+use borrow.Author.Tests.{lt-ltb, le-ltb}
+use lib.Dec.{ltb}
+use Rattle.owner.specs.Owner.{homeOf, home-by-record}
+use Rattle.map_places.specs.Places.{mapHome}
+use borrow.Author.Needs.{needs}
+use Rattle.map_places.proofs.map_home.Statement.{statement}
+use Rattle.map_places.proofs.map_home.Tie as tie
+
+symbol-requires : tie.Need-symbol-requires
+symbol-requires c κs = search needs
+
+home-requires : tie.Need-home-requires
+home-requires c κs = search needs
+
+returns : tie.Need-returns
+unfolding mapHome
+returns c =
+    let a = c .before .before .before .args in
+    let t : ltb (a .n) (a .h .sections) ≡ true = lt-ltb (a .n) (a .h .sections) (omega arith) in
+    rw t
+
+returns-2 : tie.Need-returns-2
+unfolding mapHome
+returns-2 c =
+    let a = c .before .before .before .before .before .before .args in
+    let t : ltb (a .n) (a .h .sections) ≡ false = le-ltb (a .n) (a .h .sections) (omega arith) in
+    rw t (c .home .ensures ∙ ap (homeOf (now (a .d)) (a .gap) (a .h)) (c .before .symbol .ensures) ∙ sym (home-by-record (now (a .d)) (a .gap) (a .h) (a .n - a .h .sections)))
+
+pub map-home-spec : {M : Type 1} → statement M
+map-home-spec = tie.close (tie.spec symbol-requires home-requires returns returns-2)

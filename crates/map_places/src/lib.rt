@@ -1,0 +1,69 @@
+// Where the first map of each section stands in the map table.
+ghost use mathlib.Core.Path.{_≡_};
+ghost use mathlib.Core.List.{_++_};
+ghost use Prim.Native.Nat.{ℕ, _^_, _<_, _≤_};
+ghost use lib.ListN.{length, getD, take, drop};
+ghost use Rattle.lists.specs.Tab.{tab};
+ghost use Rattle.owner.specs.Owner.{Rise};
+ghost use Rattle.catalogue.specs.Fits.{MapFits};
+ghost use Rattle.map_places.specs.Places.{mapHome, mapPlaces};
+ghost use Rattle.map_places.specs.Found.{placeOf};
+use model::Head;
+use model::SymbolRecord;
+use owner::Owner;
+use owner::home;
+use owner::section_of;
+use records::symbol;
+use stream::size;
+
+// The section that a map is made from.
+fn map_home(d: &[u8], gap: usize, h: Head, n: u32) -> u32
+    requires { ⌜ (gap ≤ 4) × Rise (now d) gap h ⌝ }
+    ensures { λ r. ⌜ r ≡ mapHome (now (d .entry)) gap h n ⌝ }
+{
+    if n < h.sections {
+        n
+    } else {
+        home(d, gap, h, symbol(d, gap, h, n - h.sections))
+    }
+}
+
+fn clear(by: &mut [u32], n: usize)
+    requires { ⌜ n ≤ length (now by) ⌝ }
+    ensures { λ r. ⌜ now (by .exit) ≡ tab (λ i. 0) n ++ drop n (now (by .entry)) ⌝ }
+{
+    let mut i: usize = 0;
+    while i < n {
+        by[i] = 0;
+        i += 1;
+    }
+}
+
+// From the last map to the first, so that a section keeps its first.
+pub fn maps_by_section(d: &[u8], gap: usize, h: Head, maps: &[u32], n: usize, by: &mut [u32])
+    requires { ⌜ (gap ≤ 4) × Rise (now d) gap h × (n ≤ length (now maps)) × (n < 2 ^ 32) × (h .sections ≤ length (now by)) × ((k : ℕ) → k < n → MapFits (now d) gap h (getD (now maps) k 0)) ⌝ }
+    ensures { λ r. ⌜ now (by .exit) ≡ mapPlaces (now (d .entry)) gap h (take n (now (maps .entry))) ++ drop (h .sections) (now (by .entry)) ⌝ }
+{
+    clear(by, size(h.sections));
+    let mut k = n;
+    while k > 0 {
+        let i = size(map_home(d, gap, h, maps[k - 1]));
+        by[i] = k as u32;
+        k -= 1;
+    }
+}
+
+// One more than the place of the first map that has a symbol's section, or 0.
+pub fn place_of(d: &[u8], gap: usize, h: Head, by: &[u32], y: SymbolRecord) -> usize
+    requires { ⌜ (gap ≤ 4) × Rise (now d) gap h × (h .sections ≤ length (now by)) ⌝ }
+    ensures { λ r. ⌜ r ≡ placeOf (now (d .entry)) gap h (now (by .entry)) y ⌝ }
+{
+    let index = y.section;
+    if index.0 == 0xFFFFFFFF {
+        return 0;
+    }
+    match section_of(d, gap, h, index) {
+        Owner::Section(i) => size(by[size(i)]),
+        Owner::Nobody => 0,
+    }
+}

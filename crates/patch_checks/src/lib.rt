@@ -1,0 +1,230 @@
+// A patch list as it is lent, and what refuses it: numbers 18 to 23.
+ghost use mathlib.Core.Path.{_≡_};
+ghost use mathlib.Core.Bool.{not};
+ghost use Prim.Native.Nat.{_^_, _<_};
+ghost use lib.Dec.{eqb};
+ghost use lib.ListN.{length, getD};
+ghost use Rattle.model.specs.Bytes.{inside, orElse};
+ghost use Rattle.model.specs.Refusals.{noSection, noSymbol, ofEntry, placeRefusal, entryRefusal, patchRefusal};
+ghost use Rattle.model.specs.PatchList.{patchesOf};
+ghost use Rattle.view.specs.Checked.{checkedOf};
+ghost use Rattle.view.specs.View.{symbolIn, symbolFrom, objectIn};
+ghost use Rattle.bearers.specs.Search.{byName};
+ghost use Rattle.patch_checks.specs.Entries.{entryAt, patchBy};
+ghost use Rattle.patch_checks.specs.Checks.{past, mapsOf, Sited};
+use bearers::Bearer;
+use bearers::bearer_of;
+use map_places::place_of;
+use model::Head;
+use model::Range;
+use model::Refusal;
+use model::SectionIndex;
+use model::SymbolIndex;
+use model::SymbolRecord;
+use own::own_length;
+use records::symbol;
+use view::Checked;
+
+// Five numbers of the list: whether all are lent, the name, the data and the must-exist mark.
+pub struct Entry {
+    pub whole: bool,
+    pub name: Range,
+    pub bytes: Range,
+    pub mark: u64,
+}
+
+// Number i of the list, 0 past the end.
+fn number(entries: &[u64], i: usize) -> u64
+    ensures { λ r. ⌜ r ≡ getD (now (entries .entry)) i 0 ⌝ }
+{
+    if i < entries.len() { entries[i] } else { 0 }
+}
+
+// Entry e, counted from 0.
+pub fn entry_at(entries: &[u64], e: usize) -> Entry
+    requires { ⌜ e < 2 ^ 60 ⌝ }
+    ensures { λ r. ⌜ r ≡ entryAt (now (entries .entry)) e ⌝ }
+{
+    let p = 5 * e;
+    Entry {
+        whole: p + 5 <= entries.len(),
+        name: Range {
+            at: number(entries, p),
+            length: number(entries, p + 1),
+        },
+        bytes: Range {
+            at: number(entries, p + 2),
+            length: number(entries, p + 3),
+        },
+        mark: number(entries, p + 4),
+    }
+}
+
+// Whether a range lies inside a buffer of n bytes.
+fn lies_inside(r: Range, n: u64) -> bool
+    ensures { λ a. ⌜ a ≡ inside (r .at) (r .length) n ⌝ }
+{
+    if r.at <= n {
+        r.length <= n - r.at
+    } else {
+        false
+    }
+}
+
+fn is_lent(x: Entry, patches: &[u8]) -> bool
+    ensures { λ r. ⌜ r ≡ patchBy (now (patches .entry)) x .inside ⌝ }
+{
+    let n = patches.len() as u64;
+    if !x.whole {
+        return false;
+    }
+    let name = x.name;
+    if !lies_inside(name, n) {
+        return false;
+    }
+    let bytes = x.bytes;
+    lies_inside(bytes, n)
+}
+
+// Whether a symbol's address plus size passes n bytes or 2^64 - 1. No sum is made.
+fn passes(n: usize, at: u64, size: u64) -> bool
+    ensures { λ r. ⌜ r ≡ past n at size ⌝ }
+{
+    let m = n as u64;
+    if at <= m { m - at < size } else { true }
+}
+
+// Refused, with the entry named.
+fn of_entry(number: u32, entry: u64) -> Checked
+    ensures { λ r. ⌜ r ≡ Checked.Refused (record { number = number; section = noSection; symbol = noSymbol; entry = entry }) ⌝ }
+{
+    Checked::Refused(Refusal {
+        number,
+        section: SectionIndex(0),
+        symbol: SymbolIndex(0),
+        entry,
+    })
+}
+
+// Numbers 22 and 23.
+fn place_refusal(
+    d: &[u8],
+    gap: usize,
+    h: Head,
+    maps: &[u32],
+    n: usize,
+    by: &[u32],
+    y: SymbolRecord,
+    e: u64,
+) -> Checked
+    requires { ⌜ Sited (now d) gap h (now maps) n (now by) ⌝ }
+    ensures { λ r. ⌜ r ≡ checkedOf (placeRefusal (mapsOf (now (d .entry)) gap h (now (maps .entry)) n) e (symbolFrom (now (d .entry)) gap h y)) ⌝ }
+{
+    let place = place_of(d, gap, h, by, y);
+    if place == 0 {
+        return of_entry(22, e);
+    }
+    let own = own_length(d, gap, h, maps[place - 1]);
+    if passes(own, y.address, y.size) {
+        return of_entry(23, e);
+    }
+    Checked::Fine
+}
+
+// Numbers 21 to 23, for data of so many bytes.
+fn symbol_refusal(
+    d: &[u8],
+    gap: usize,
+    h: Head,
+    maps: &[u32],
+    n: usize,
+    by: &[u32],
+    j: u32,
+    length: u64,
+    e: u64,
+) -> Checked
+    requires { ⌜ Sited (now d) gap h (now maps) n (now by) ⌝ }
+    ensures { λ r. ⌜ r ≡ checkedOf (orElse (ofEntry 21 e (not (eqb length (symbolIn (now (d .entry)) gap h j .size)))) (placeRefusal (mapsOf (now (d .entry)) gap h (now (maps .entry)) n) e (symbolIn (now (d .entry)) gap h j))) ⌝ }
+{
+    let y = symbol(d, gap, h, j);
+    if length != y.size {
+        return of_entry(21, e);
+    }
+    place_refusal(d, gap, h, maps, n, by, y, e)
+}
+
+// What refuses an entry, which is entry e counted from 1.
+fn entry_refusal(
+    d: &[u8],
+    gap: usize,
+    h: Head,
+    x: Entry,
+    patches: &[u8],
+    order: &[u32],
+    maps: &[u32],
+    n: usize,
+    by: &[u32],
+    e: u64,
+) -> Checked
+    requires { ⌜ Sited (now d) gap h (now maps) n (now by) × (now order ≡ byName (now d) gap h) ⌝ }
+    ensures { λ r. ⌜ r ≡ checkedOf (entryRefusal (objectIn (now (d .entry)) gap h) (mapsOf (now (d .entry)) gap h (now (maps .entry)) n) e (patchBy (now (patches .entry)) x)) ⌝ }
+{
+    if !is_lent(x, patches) {
+        return of_entry(18, e);
+    }
+    if x.mark > 1 {
+        return of_entry(18, e);
+    }
+    let at = x.name.at as usize;
+    let end = at + x.name.length as usize;
+    match bearer_of(d, gap, h, order, &patches[at..end]) {
+        Bearer::Nobody => {
+            if x.mark == 1 {
+                of_entry(20, e)
+            } else {
+                Checked::Fine
+            }
+        }
+        Bearer::One(j) => symbol_refusal(d, gap, h, maps, n, by, j, x.bytes.length, e),
+        Bearer::Several => of_entry(19, e),
+    }
+}
+
+// What refuses the list: the first entry that is refused.
+pub fn patch_refusal(
+    d: &[u8],
+    gap: usize,
+    h: Head,
+    entries: &[u64],
+    patches: &[u8],
+    order: &[u32],
+    maps: &[u32],
+    n: usize,
+    by: &[u32],
+) -> Checked
+    requires { ⌜ Sited (now d) gap h (now maps) n (now by) × (now order ≡ byName (now d) gap h) ⌝ }
+    ensures { λ r. ⌜ r ≡ checkedOf (patchRefusal (objectIn (now (d .entry)) gap h) (mapsOf (now (d .entry)) gap h (now (maps .entry)) n) 1 (patchesOf (now (entries .entry)) (now (patches .entry)))) ⌝ }
+{
+    let count = (entries.len() + 4) / 5;
+    let mut e: usize = 0;
+    while e < count {
+        let x = entry_at(entries, e);
+        let entry = (e + 1) as u64;
+        if let Checked::Refused(r) = entry_refusal(
+            d,
+            gap,
+            h,
+            x,
+            patches,
+            order,
+            maps,
+            n,
+            by,
+            entry,
+        ) {
+            return Checked::Refused(r);
+        }
+        e += 1;
+    }
+    Checked::Fine
+}
