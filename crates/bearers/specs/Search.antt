@@ -194,6 +194,11 @@ module _ (d : List ℕ) (gap : ℕ) (h : Head) where
   unfoldable pub byName : List ℕ
   byName = sorted (byKey nameOf) (upTo (h .symbols))
 
+  -- all numbers, counted up and sorted
+  pub name-order : (l m : List ℕ) → l ≡ upTo (h .symbols) → m ≡ sorted (byKey nameOf) l → m ≡ byName
+  unfolding byName
+  name-order l m p q = q ∙ ap (sorted (byKey nameOf)) p
+
   pub by-name-ordered : Ordered (byKey nameOf) byName
   unfolding byName
   by-name-ordered = sorted-ordered (byKey nameOf) (key-order nameOf) (upTo (h .symbols))

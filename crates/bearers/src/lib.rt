@@ -6,6 +6,7 @@ ghost use Rattle.model.specs.Bytes.{same, before};
 ghost use Rattle.orders.specs.Compare.{ordering};
 ghost use Rattle.bearers.specs.Bearers.{bearerOf, bearersIn};
 ghost use Rattle.bearers.specs.Search.{First, hasAt, nameOf, byName};
+use keys::By;
 use keys::compare_name_with;
 use keys::names_at;
 use keys::symbol_name;
@@ -18,6 +19,15 @@ pub enum Bearer {
     Nobody,
     One(u32),
     Several,
+}
+
+// All symbols sorted by name.
+pub fn by_name(d: &[u8], gap: usize, h: Head, order: &mut [u32], tmp: &mut [u32])
+    requires { ⌜ (gap ≤ 4) × (h .symbols ≤ 65536) × (length (now order) ≡ h .symbols) × (length (now tmp) ≡ h .symbols) ⌝ }
+    ensures { λ r. ⌜ now (order .exit) ≡ byName (now (d .entry)) gap h ⌝ }
+{
+    sort::count_up(order);
+    sort::sort(d, gap, h, By::SymbolName, order, tmp);
 }
 
 // How the name of symbol j stands to a word.

@@ -1,0 +1,30 @@
+-- `bearers::by_name` meets its contract: all numbers are counted up, then sorted.
+use mathlib.Core.Path.{ap, _∙_}
+use denote.Ref.{now}
+use Rattle.plan.specs.Numbers.{upTo}
+use Rattle.bearers.specs.Search.{name-order}
+use borrow.Author.Needs.{needs}
+use Rattle.bearers.proofs.by_name.Statement.{statement}
+use Rattle.bearers.proofs.by_name.Tie as tie
+
+count-up-requires : tie.Need-count-up-requires
+count-up-requires c κs = search needs
+
+sort-requires : tie.Need-sort-requires
+sort-requires c κs = search needs
+
+same-length : tie.Need-same-length
+same-length c = search needs
+
+same-length-2 : tie.Need-same-length-2
+same-length-2 c = search needs
+
+returns : tie.Need-returns
+returns c =
+    let s = c .before .before .before .before .before .before .before .before .before .before .before .before .before .before in
+    let a = s .args in
+    name-order (now (a .d)) (a .gap) (a .h) _ _ (c .before .before .before .before .before .before .before .before .before .count-up .ensures ∙ ap upTo (s .pre .2)) (c .before .before .before .before .sort .ensures)
+
+pub by-name-spec : {M : Type 1} → statement M
+by-name-spec =
+    tie.close (tie.spec count-up-requires sort-requires same-length same-length-2 returns)

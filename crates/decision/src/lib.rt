@@ -1,0 +1,89 @@
+// What a load decides before it fills the lent tables: why the deposit goes back, or that all of its catalogue fits.
+ghost use mathlib.Core.Path.{_≡_};
+ghost use mathlib.Core.Option.{none};
+ghost use Prim.Native.Nat.{_≤_};
+ghost use lib.ListN.{length, take};
+ghost use Rattle.model.specs.PatchList.{patchesOf};
+ghost use Rattle.model.specs.Refusals.{objectRefusal, patchRefusal};
+ghost use Rattle.catalogue.specs.Numbers.{mapNumbers};
+ghost use Rattle.accepted.specs.Readable.{Readable};
+ghost use Rattle.view.specs.Checked.{checkedOf};
+ghost use Rattle.view.specs.View.{objectIn};
+ghost use Rattle.bytes.specs.Parts.{catalogue};
+ghost use Rattle.decision.specs.Patches.{Ready};
+ghost use Rattle.decision.specs.Room.{fitsBy};
+use bearers::by_name;
+use bytes::Places;
+use map_places::maps_by_section;
+use model::Head;
+use model::Refusal;
+use patch_checks::patch_refusal;
+use tables::Counts;
+use view::Checked;
+
+// The lengths of what is lent: of the function table in rows, of the others in numbers, of the bytes in bytes.
+pub struct Room {
+    pub sections: usize,
+    pub programs: usize,
+    pub functions: usize,
+    pub maps: usize,
+    pub relocations: usize,
+    pub bytes: usize,
+}
+
+// How many rows each table has, and where the parts of the bytes begin.
+pub struct Plan {
+    pub counts: Counts,
+    pub relocations: usize,
+    pub places: Places,
+}
+
+pub enum Decision {
+    Refused(Refusal),
+    Accepted(Plan),
+}
+
+fn fits(room: Room, n: Counts, relocations: usize, bytes: usize) -> bool
+    ensures { λ r. ⌜ r ≡ fitsBy room n relocations bytes ⌝ }
+{
+    if n.sections > room.sections / 4 {
+        return false;
+    }
+    if n.programs > room.programs / 7 {
+        return false;
+    }
+    if n.functions > room.functions {
+        return false;
+    }
+    if n.maps > room.maps / 27 {
+        return false;
+    }
+    if relocations > room.relocations / 4 {
+        return false;
+    }
+    bytes <= room.bytes
+}
+
+// Numbers 18 to 23. Only where there are entries are the symbols ordered by name, and the maps placed by section.
+fn check_patches(
+    d: &[u8],
+    gap: usize,
+    h: Head,
+    entries: &[u64],
+    patches: &[u8],
+    maps: &[u32],
+    n: usize,
+    order: &mut [u32],
+    tmp: &mut [u32],
+    by: &mut [u32],
+) -> Checked
+    requires { ⌜ Readable (now d) gap h × (objectRefusal (objectIn (now d) gap h) ≡ none) × (n ≤ length (now maps)) × (n ≤ 69632) × (take n (now maps) ≡ mapNumbers (now d) gap h) × (length (now order) ≡ h .symbols) × (length (now tmp) ≡ h .symbols) × (h .sections ≤ length (now by)) ⌝ }
+    ensures { λ r. ⌜ (r ≡ checkedOf (patchRefusal (objectIn (now (d .entry)) gap h) (catalogue (now (d .entry)) gap h .maps) 1 (patchesOf (now (entries .entry)) (now (patches .entry))))) × Ready (now (d .entry)) gap h (now (entries .entry)) (now (maps .entry)) n (now (order .exit)) (now (by .exit)) ⌝ }
+{
+    if entries.len() == 0 {
+        return Checked::Fine;
+    }
+    by_name(d, gap, h, order, tmp);
+    maps_by_section(d, gap, h, maps, n, by);
+    patch_refusal(d, gap, h, entries, patches, order, maps, n, by)
+}
