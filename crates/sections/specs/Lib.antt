@@ -1,0 +1,4 @@
+-- One section's group and answers, and the pass over all sections.
+pub mod Grouped
+pub mod Answers
+pub mod Pass
