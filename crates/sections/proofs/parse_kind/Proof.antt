@@ -1,14 +1,12 @@
 -- `sections::parse_kind` meets its contract: by the kind.
 use Rattle.sections.specs.Answers.{kind-program, kind-text, kind-maps, kind-btf-maps, kind-other}
-use Rattle.model.specs.SectionKind.{isKind}
+use Rattle.model.specs.SectionKind.{kindOf}
+use Rattle.view.specs.View.{sectionFrom}
+use Rattle.sections.specs.Kinds.{other-kind}
 use Rattle.model.specs.declared.EbpfSectionKind.{EbpfSectionKind as Kind}
-use Rattle.model.proofs.EbpfSectionKind.{the-type}
-use denote.Enum.Declared.{tagOf}
-use types.Run.{OneOf, miss}
-use Prim.Native.Nat.{ℕ}
 use mathlib.Core.List.{List, [], _∷_}
-use mathlib.Core.Bool.{false}
-use mathlib.Core.Path.{_≡_, refl, sym, _∙_}
+use Prim.Native.Nat.{ℕ}
+use mathlib.Core.Path.{sym, _∙_}
 use denote.Ref.{now}
 use borrow.Author.Needs.{needs}
 use Rattle.sections.proofs.parse_kind.Statement.{statement}
@@ -90,27 +88,14 @@ returns-4 c =
 abbrev others : List ℕ
 others = 0 ∷ 4 ∷ 5 ∷ 6 ∷ 8 ∷ 9 ∷ 10 ∷ 11 ∷ []
 
-other : (k : Kind) → OneOf others (tagOf the-type k)
-    → (isKind Kind.Program k ≡ false) × (isKind Kind.Maps k ≡ false) × (isKind Kind.Text k ≡ false) × (isKind Kind.BtfMaps k ≡ false)
-other Kind.Undefined h = (refl, refl, refl, refl)
-other Kind.Maps h = absurd (miss others 1 tt h)
-other Kind.BtfMaps h = absurd (miss others 2 tt h)
-other Kind.Program h = absurd (miss others 3 tt h)
-other Kind.Data h = (refl, refl, refl, refl)
-other Kind.Rodata h = (refl, refl, refl, refl)
-other Kind.Bss h = (refl, refl, refl, refl)
-other Kind.Text h = absurd (miss others 7 tt h)
-other Kind.Btf h = (refl, refl, refl, refl)
-other Kind.BtfExt h = (refl, refl, refl, refl)
-other Kind.License h = (refl, refl, refl, refl)
-other Kind.Version h = (refl, refl, refl, refl)
-
 returns-5 : tie.Need-returns-5
 returns-5 c =
     let st = c .before .before .before .before .before .before in
     let a = st .args in
-    let k = rw (st .pre .7) at (other (a .kind) (c .match .keys5)) in
-    kind-other (now (a .d)) (a .gap) (a .h) (a .s) (now (a .functions)) (a .w) (k .0) (k .1) (k .2) (k .3)
+    let k = kindOf (sectionFrom (now (a .d)) (a .gap) (a .h) (a .s)) in
+    let o = rw (st .pre .7) at (c .match .keys5) in
+    kind-other (now (a .d)) (a .gap) (a .h) (a .s) (now (a .functions)) (a .w) (other-kind others Kind.Program k tt o) (other-kind others Kind.Maps k tt o)
+    (other-kind others Kind.Text k tt o) (other-kind others Kind.BtfMaps k tt o)
 
 pub parse-kind-spec : {M : Type 1} → statement M
 parse-kind-spec =
