@@ -10,7 +10,7 @@ use lib.Dec.{eqb}
 use lib.ListN.{length, take, drop}
 use lib.Seq.{slice, length-slice, length-take-le, take-add, take-at, drop-at}
 use Rattle.lists.specs.Slice.{slice-none}
-use Rattle.lists.specs.Tab.{tab}
+use Rattle.lists.specs.Tab.{tab, length-tab}
 use Rattle.model.specs.declared.Head.{Head}
 use Rattle.model.specs.declared.SectionIndex.{SectionIndex}
 use Rattle.model.specs.declared.SectionRecord.{SectionRecord}
@@ -19,7 +19,8 @@ use Rattle.model.specs.Deposit.{unlessNone, byteOrder}
 use Rattle.model.specs.Object.{Section}
 use Rattle.model.specs.Symbols.{liesIn}
 use Rattle.orders.specs.Sort.{byKey, key-order, sorted, length-sorted}
-use Rattle.records.specs.Records.{symbolAt}
+use Rattle.records.specs.Records.{sectionAt, symbolAt}
+use Rattle.catalogue.specs.Numbers.{Rises}
 use Rattle.plan.specs.ByNumber.{rawSection, isDefinedText, members, textMembers, textOrder}
 use Rattle.plan.specs.Numbers.{upTo, keep-ext}
 use Rattle.plan.specs.SectionsPrograms.{All}
@@ -60,6 +61,25 @@ module _ (d : List ℕ) (gap : ℕ) (h : Head) where
     pub within : hi ≤ length order
     pub group : slice lo hi order ≡ membersIn d gap h s
     pub passed : (k : ℕ) → s .index .0 < k → Passed order hi k
+
+  -- i sections are passed, and their symbols end at `from`
+  pub record Reached (order : List ℕ) (i from : ℕ) : Type 0 where
+    pub within : from ≤ length order
+    pub passed : i < h .sections → Passed order from (sectionAt d gap i .index .0)
+
+  pub reached-start : (order : List ℕ) → Reached order 0 0
+  reached-start order = record { within = omega arith; passed = λ l. tt }
+
+  index-rises : Rises d gap h → (i j : ℕ) → i < j → j < h .sections → sectionAt d gap i .index .0 < sectionAt d gap j .index .0
+  unfolding sectionFrom
+  index-rises rise i j l m = rise i j l m
+
+  pub reached-next : (order : List ℕ) (i from lo hi : ℕ) → Rises d gap h → GroupOf (sectionAt d gap i) order from lo hi → Reached order (i + 1) hi
+  reached-next order i from lo hi rise g =
+      record { within = g .within; passed = λ l. g .passed (sectionAt d gap (i + 1) .index .0) (index-rises rise i (i + 1) (omega arith) l) }
+
+  pub all-symbols : (order : List ℕ) → order ≡ sorted (bySection (symbolIn d gap h)) (upTo (h .symbols)) → length order ≡ h .symbols
+  all-symbols order e = ap length e ∙ rw (length-sorted, length-tab)
 
   -- no symbol lies in a section of the index that stands for none
   no-members : (s : SectionRecord) → s .index .0 ≡ 4294967295 → membersIn d gap h s ≡ []

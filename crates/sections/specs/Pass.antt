@@ -15,12 +15,12 @@ use Rattle.model.specs.Object.{Object}
 use Rattle.model.specs.Refusals.{sectionRefusal, objectRefusal}
 use Rattle.plan.specs.Numbers.{firstIn-on, firstIn-at}
 use Rattle.records.specs.Records.{sectionAt}
-use Rattle.view.specs.View.{sectionFrom, sectionIn, objectIn}
+use Rattle.view.specs.View.{sectionIn, objectIn}
 use Rattle.catalogue.specs.Numbers.{Rises, functionsFrom, functionCandidates}
 use Rattle.first_checks.specs.LicenceVersion.{licenceRefused, versionRefused}
 use Rattle.text.specs.declared.ParsedText.{ParsedText}
 use Rattle.text.specs.Parsed.{parsedText, laid}
-use Rattle.sections.specs.Grouped.{Passed, GroupOf}
+use Rattle.sections.specs.Grouped.{GroupOf, Reached, reached-start, reached-next}
 use Rattle.sections.specs.Answers.{Answers, functionsBy, functions-by}
 
 -- the answer for a refusal or none, and the numbers at the front of a list where there is none
@@ -32,7 +32,7 @@ pub listed-refused : (q : Option Refusal) (x : Refusal) (ns out : List ℕ) → 
 listed-refused q x ns out e = record { answer = rw e; numbers = λ f. not-some x (sym e ∙ f) }
 
 -- numbers laid into a list of n elements end inside it
-laid-inside : (t ns out : List ℕ) (w n : ℕ) → w ≤ n → length t ≡ n → length out ≡ n → out ≡ laid t w ns → w + length ns ≤ n
+pub laid-inside : (t ns out : List ℕ) (w n : ℕ) → w ≤ n → length t ≡ n → length out ≡ n → out ≡ laid t w ns → w + length ns ≤ n
 laid-inside t ns out w n h a b e =
     let l : length out ≡ w + (length ns + (length t - (w + length ns))) =
     ap length e ∙ rw (length-append, length-append, length-drop, length-take-le w t (omega arith)) in
@@ -60,29 +60,23 @@ module _ (d : List ℕ) (gap : ℕ) (h : Head) where
     pub refused-sections : versionRefused d gap h ≡ none → objectRefusal o ≡ sectionsRefused
     refused-sections f = refused-in-turn ∙ (λ k. orElse (e k) (orElse (f k) sectionsRefused))
 
-  index-rises : Rises d gap h → (i j : ℕ) → i < j → j < h .sections → sectionAt d gap i .index .0 < sectionAt d gap j .index .0
-  unfolding sectionFrom
-  index-rises rise i j l m = rise i j l m
-
   -- i sections are passed: none is refused, their symbols end at `from`, and their functions are the first w of a list
   pub record Going (order functions : List ℕ) (i from w : ℕ) : Type 0 where
-    pub within : from ≤ length order
+    pub reached : Reached d gap h order i from
     pub few : w ≤ from
     pub count : w ≡ length (rows (functionsFrom d gap h) i)
     pub held : take w functions ≡ rows (functionsFrom d gap h) i
     pub fine : firstIn (sectionRefusal o) (tab (sectionIn d gap h) i) ≡ none
-    pub passed : i < h .sections → Passed d gap h order from (sectionAt d gap i .index .0)
 
   pub going-start : (order functions : List ℕ) → Going order functions 0 0 0
   unfolding firstIn
   going-start order functions =
       record {
-        within = omega arith;
+        reached = reached-start d gap h order;
         few = omega arith;
         count = rw rows-none;
         held = rw rows-none;
         fine = rw tab-none;
-        passed = λ l. tt;
       }
 
   pub going-end : (order functions : List ℕ) (i from w : ℕ) → i ≡ h .sections → Going order functions i from w
@@ -127,10 +121,9 @@ module _ (d : List ℕ) (gap : ℕ) (h : Head) where
         let ln : length (rows (functionsFrom d gap h) i ++ ns) ≡ m = rw (length-append, ← g .count) (sym (f .1)) in
         let ap2 : out ≡ (rows (functionsFrom d gap h) i ++ ns) ++ drop (w + length ns) (take (hi - 0) functions) = ou ∙ rw (fr, append-assoc) in
         record {
-          within = b .within;
+          reached = reached-next d gap h order i from lo hi rise b;
           few = omega (arith, f .1);
           count = rw (more, ln);
           held = take-append-le m out (drop (hi - 0) functions) (omega (arith, len, lt, f .1)) ∙ ap (take m) ap2 ∙ take-at (rows (functionsFrom d gap h) i ++ ns) _ m ln ∙ sym more;
           fine = firstIn-on (sectionRefusal o) (sectionIn d gap h) i (g .fine) (f .0);
-          passed = λ k. b .passed (sectionAt d gap (i + 1) .index .0) (index-rises rise i (i + 1) (omega arith) k);
         }

@@ -31,7 +31,7 @@ group-of-requires c κs =
     let l = c .before .before in
     let st = l .before .before .before .before .before .before .before in
     let g = l .loop .inv .4 in
-    (st .pre .0, g .within, st .pre .2, rw (c .section .ensures) (g .passed (c .before .loop-test .taken)))
+    (st .pre .0, g .reached .within, st .pre .2, rw (c .section .ensures) (g .reached .passed (c .before .loop-test .taken)))
 
 sub-parse-section : tie.Need-sub-parse-section Inv-loop μ-loop
 sub-parse-section c = search needs
