@@ -1,16 +1,17 @@
 -- The keys that sort the symbols, and the group between the two places: the section's symbols.
 use mathlib.Core.Path.{_≡_, refl, sym, _∙_}
-use mathlib.Core.Bool.{Bool, true, false}
+use mathlib.Core.Bool.{Bool, true, false, cond, not}
 use mathlib.Core.List.{List, [], _∷_}
 use Prim.Native.Nat.{ℕ, zero, suc, _<_, _≤_}
 use native.Mathlib.Omega.{arith}
-use borrow.Author.Tests.{eq-eqb, ne-eqb, ltb-true, ltb-false}
+use borrow.Author.Tests.{eqb-true, eq-eqb, ne-eqb, ltb-true, ltb-false}
 use lib.Dec.{eqb, ltb}
 use lib.ListN.{length, getD, take, drop}
 use lib.Seq.{slice}
 use Rattle.model.specs.declared.Head.{Head}
-use Rattle.model.specs.Bytes.{keep}
-use Rattle.orders.specs.Sort.{byKey, sorted, Ordered}
+use Rattle.lists.specs.Tests.{true-not-false}
+use Rattle.model.specs.Bytes.{keep, before}
+use Rattle.orders.specs.Sort.{byKey, key-order, sorted, Ordered, sorted-ordered}
 use Rattle.records.specs.Records.{symbolAt}
 use Rattle.plan.specs.Numbers.{upTo}
 use Rattle.plan.specs.ByNumber.{rawSection}
@@ -31,7 +32,7 @@ module _ (d : List ℕ) (gap : ℕ) (h : Head) where
   unfolding keyOf
   section-keys = λ k j. sym (raw-is d gap h (symbolAt d gap h j)) k ∷ []
 
-  place-keys : keyOf By.SymbolAddress d gap h ≡ (λ j. rawSection (symbolIn d gap h j) ∷ symbolIn d gap h j .address ∷ [])
+  pub place-keys : keyOf By.SymbolAddress d gap h ≡ (λ j. rawSection (symbolIn d gap h j) ∷ symbolIn d gap h j .address ∷ [])
   unfolding keyOf
   place-keys = λ k j. sym (raw-is d gap h (symbolAt d gap h j)) k ∷ address-is j k ∷ []
 
@@ -53,6 +54,19 @@ unfolding Ordered
 ordered-climbs key le imp n [] f o = tt
 ordered-climbs key le imp n (x ∷ []) f o = (f, tt)
 ordered-climbs key le imp n (x ∷ y ∷ l) f o = (f, ordered-climbs key le imp (key x) (y ∷ l) (imp x y (o .0)) (o .1))
+
+first-from-0 : (key : ℕ → ℕ) (l : List ℕ) → FirstFrom key 0 l
+first-from-0 key [] = tt
+first-from-0 key (x ∷ l) = omega arith
+
+number-le : (x y : ℕ) → not (before (y ∷ []) (x ∷ [])) ≡ true → x ≤ y
+unfolding before
+number-le x y e = go (eqb y x) (ltb y x) refl refl e
+  where
+    go : (b c : Bool) → eqb y x ≡ b → ltb y x ≡ c → not (cond b false c) ≡ true → x ≤ y
+    go true c p q r = let f : y ≡ x = eqb-true y x p in omega arith
+    go false true p q r = true-not-false (sym r)
+    go false false p q r = ltb-false y x q
 
 all-from : (key : ℕ → ℕ) (m n : ℕ) (l : List ℕ) → Climbs key n l → m ≤ n → All (λ j. m ≤ key j) l
 all-from key m n [] c h = tt
@@ -86,6 +100,21 @@ join-take P zero n l h a b = b
 join-take P (suc m) zero l h a b = let no : ⊥ = omega arith in absurd no
 join-take P (suc m) (suc n) [] h a b = tt
 join-take P (suc m) (suc n) (x ∷ l) h a b = (a .0, join-take P m n l (omega arith) (a .1) b)
+
+-- all symbols sorted by section
+pub section-climbs : (d : List ℕ) (gap : ℕ) (h : Head) (l : List ℕ) → l ≡ sorted (bySection (symbolIn d gap h)) (upTo (h .symbols)) → Climbs (λ j. symbolAt d gap h j .section .0) 0 l
+section-climbs d gap h l e =
+    let le = bySection (symbolIn d gap h) in
+    let o : Ordered le l = rw e (sorted-ordered le (key-order (λ j. rawSection (symbolIn d gap h j) ∷ [])) (upTo (h .symbols))) in
+    ordered-climbs (λ j. symbolAt d gap h j .section .0) le
+    (λ a b q. rw (raw-is d gap h (symbolAt d gap h a), raw-is d gap h (symbolAt d gap h b)) at (number-le (rawSection (symbolIn d gap h a)) (rawSection (symbolIn d gap h b)) q))
+    0 l (first-from-0 (λ j. symbolAt d gap h j .section .0) l) o
+
+-- up to a place where no group stands
+pub none-passed : (key : ℕ → ℕ) (l : List ℕ) (k k₂ from lo : ℕ) → k ≤ k₂ → from ≤ lo → All (λ j. key j < k) (take from l) → All (λ j. key j < k) (slice from lo l)
+    → All (λ j. key j < k₂) (take lo l)
+none-passed key l k k₂ from lo h fl a b =
+    all-map (λ j. key j < k) (λ j. key j < k₂) (take lo l) (λ j q. omega arith) (join-take (λ j. key j < k) from lo l fl a b)
 
 -- ---- the group
 

@@ -1,0 +1,5 @@
+-- One section's group and answers, and the pass over all sections.
+pub mod Kinds
+pub mod Grouped
+pub mod Answers
+pub mod Pass

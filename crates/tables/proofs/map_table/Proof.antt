@@ -1,0 +1,41 @@
+-- `tables::map_table` meets its contract: the table of what the sections list.
+use Rattle.tables.specs.Candidates.{candidates-front, tabled}
+use Rattle.catalogue.specs.Numbers.{mapCandidates, mapNumbers}
+use Rattle.keys.specs.Keys.{keyOf}
+use Rattle.keys.specs.declared.By.{By}
+use lib.ListN.{length}
+use Prim.Native.Nat.{_≤_}
+use native.Mathlib.Omega.{arith}
+use denote.Ref.{now}
+use borrow.Author.Needs.{needs}
+use Rattle.tables.proofs.map_table.Statement.{statement}
+use Rattle.tables.proofs.map_table.Tie as tie
+
+list-maps-requires : tie.Need-list-maps-requires
+list-maps-requires c κs = search needs
+
+table-requires : tie.Need-table-requires
+table-requires c κs = search needs
+
+same-length : tie.Need-same-length
+same-length c = search needs
+
+same-length-2 : tie.Need-same-length-2
+same-length-2 c = search needs
+
+returns : tie.Need-returns
+unfolding mapNumbers
+returns c =
+    let t = c .before .before .before .before .table in
+    let f = c .before .before .before .before .before .before .before .before .before in
+    let st = f .before .before .before .before .before .before in
+    let a = st .args in
+    let n = f .list-maps in
+    let o = n .last .1 .1 .1 .1 .0 in
+    let cs = mapCandidates (now (a .d)) (a .gap) (a .h) in
+    let room : n .result ≤ length o = omega (arith, n .ensures .0, n .kept .1 .1 .1 .1 .0, st .pre .2) in
+    tabled (keyOf By.MapName (now (a .d)) (a .gap) (a .h)) cs o _ (n .result) (t .result) (candidates-front cs (now (a .order)) o (n .result) (n .ensures .1)) room (t .ensures .1) (t .ensures .0) (t .ensures .2)
+
+pub map-table-spec : {M : Type 1} → statement M
+map-table-spec =
+    tie.close (tie.spec list-maps-requires table-requires same-length same-length-2 returns)
