@@ -1,11 +1,11 @@
 -- What is lent to the act, for the maps of the object's own table.
-use mathlib.Core.Path.{_≡_, sym, ap, _∙_}
-use mathlib.Core.List.{List, map}
+use mathlib.Core.Path.{_≡_, refl, sym, ap, _∙_}
+use mathlib.Core.List.{List, _++_, map}
 use mathlib.Core.Option.{none}
 use Prim.Native.Nat.{ℕ, _*_, _<_, _≤_}
 use native.Mathlib.Nat.{le-refl}
-use lib.ListN.{length, getD, take}
-use lib.Seq.{take-length, length-take-le, getD-take}
+use lib.ListN.{length, getD, take, length-map}
+use lib.Seq.{take-at, take-length, length-take-le, getD-take}
 use Rattle.model.specs.declared.Head.{Head}
 use Rattle.model.specs.Bytes.{each}
 use Rattle.model.specs.Catalogue.{Map}
@@ -14,6 +14,7 @@ use Rattle.model.specs.Lent.{mapName, mapOwn, mapRow, placed, joined}
 use Rattle.model.specs.Patching.{patched, withMaps}
 use Rattle.model.specs.PatchList.{patchesOf}
 use Rattle.model.specs.Refusals.{patchRefusal}
+use Rattle.plan.specs.Placed.{length-joined}
 use Rattle.view.specs.View.{objectIn}
 use Rattle.catalogue.specs.Numbers.{mapAt, mapNumbers, maps-by}
 use Rattle.owner.specs.Owner.{Rise, rising}
@@ -81,6 +82,9 @@ module _ (d : List ℕ) (gap : ℕ) (h : Head) where
     all : take n maps ≡ take mapCount (mapNumbers d gap h)
     all = e ∙ sym (take-length (mapNumbers d gap h))
 
+    pub maps-lent : Rise d gap h → mapsOf d gap h maps n ≡ objectMaps
+    maps-lent rise = ap (map (mapAt d gap h)) all ∙ maps-are rise
+
     pub sited-table : (by : List ℕ) → Sited d gap h maps n by → Sited d gap h (mapNumbers d gap h) mapCount by
     sited-table by s =
         record {
@@ -100,3 +104,14 @@ module _ (d : List ℕ) (gap : ℕ) (h : Head) where
           at = r .at;
           front = ap (λ k. take (k * 27) rows) count ∙ r .front ∙ ap (λ ns. joined (placed mapName mapOwn mapRow (r .at) own (map (mapAt d gap h) ns))) all;
         }
+
+    -- where the rows stand in front of a list
+    pub rows-front : (at own : ℕ) (rows r : List ℕ) → rows ≡ joined (placed mapName mapOwn mapRow at own (mapsOf d gap h maps n)) ++ r
+        → Rows d gap h (mapNumbers d gap h) mapCount own rows
+    unfolding mapRow
+    rows-front at own rows r q =
+        let l : length (joined (placed mapName mapOwn mapRow at own (mapsOf d gap h maps n))) ≡ n * 27 =
+        length-joined mapName mapOwn mapRow 27 (λ a b m. refl) at own (mapsOf d gap h maps n)
+        ∙ ap (λ k. k * 27) (length-map (take n maps) (mapAt d gap h) ∙ length-take-le n maps w)
+        in
+        rows-table own rows (record { at = at; front = ap (take (n * 27)) q ∙ take-at (joined (placed mapName mapOwn mapRow at own (mapsOf d gap h maps n))) r (n * 27) l })
