@@ -1,7 +1,7 @@
 -- The map of a symbol's section, found by its place.
 use mathlib.Core.Path.{_≡_, refl, sym, ap, _∙_}
 use mathlib.Core.Bool.{Bool, true, false, cond}
-use mathlib.Core.List.{List, [], _∷_, map}
+use mathlib.Core.List.{List, [], _∷_, _++_, map}
 use mathlib.Core.Option.{Option, none, some}
 use mathlib.Core.Logic.{_⊎_, inl, inr, ⊎-elim}
 use Prim.Native.Nat.{ℕ, zero, suc, _+_, _-_, _<_, _≤_}
@@ -9,7 +9,7 @@ use native.Mathlib.Omega.{arith}
 use borrow.Author.Tests.{eq-eqb, ne-eqb, eqb-true, eqb-false}
 use lib.Dec.{eqb, ltb}
 use lib.ListN.{length, getD, take, length-take}
-use lib.Seq.{getD-take}
+use lib.Seq.{take-at, getD-take}
 use Rattle.lists.specs.Tab.{tab, length-tab, getD-tab}
 use Rattle.lists.specs.Tests.{not-some}
 use Rattle.model.specs.declared.Head.{Head}
@@ -225,6 +225,12 @@ module _ (d : List ℕ) (gap : ℕ) (h : Head) (rise : Rise d gap h) where
         go : (o : Option SectionIndex) → sectionOf y ≡ o → maybe o 0 (λ k. maybe (ownerIn d gap h (k .0)) 0 (λ i. getD by i 0)) ≡ suc q → Mapped q
         go none s z = let no : ⊥ = omega arith in absurd no
         go (some k) s z = at k (ownerIn d gap h (k .0)) s refl z
+
+-- where the places stand in front of a list
+pub places-front : (d : List ℕ) (gap : ℕ) (h : Head) (ns by r : List ℕ) → by ≡ mapPlaces d gap h ns ++ r → take (h .sections) by ≡ mapPlaces d gap h ns
+unfolding mapPlaces
+places-front d gap h ns by r e =
+    ap (take (h .sections)) e ∙ take-at (mapPlaces d gap h ns) r (h .sections) (length-tab (λ i. placeFrom 0 i (map (mapHome d gap h) ns)) (h .sections))
 
 -- a list of places has one for each section
 pub places-room : (d : List ℕ) (gap : ℕ) (h : Head) (ns by : List ℕ) → take (h .sections) by ≡ mapPlaces d gap h ns → h .sections ≤ length by

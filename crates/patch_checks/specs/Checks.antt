@@ -12,6 +12,7 @@ use lib.ListN.{length, getD, take, drop}
 use lib.Seq.{length-take-le, getD-take}
 use Rattle.lists.specs.Tab.{tab}
 use Rattle.lists.specs.Walk.{drop-tab-next, drop-tab-none}
+use Rattle.lists.specs.Tests.{not-some}
 use Rattle.model.specs.declared.Head.{Head}
 use Rattle.model.specs.declared.Refusal.{Refusal}
 use Rattle.model.specs.declared.SymbolRecord.{SymbolRecord}
@@ -168,6 +169,15 @@ module _ (o : Object) (ms : List Map) (entries lent : List ℕ) where
               → (entryRefusal o ms (e + 1) (patchAt entries lent e) ≡ none) × (restAt e ≡ restAt (e + 1))
           go none g f = (g, rw (drop-tab-next (patchAt entries lent) (countOf entries) e l, g, add-one (e + 1)))
           go (some x) g f = let z : _≡_ {A = ℕ} 0 1 = cc in absurd (omega arith)
+
+    pub rest-none : e < countOf entries → restAt e ≡ none → (entryRefusal o ms (e + 1) (patchAt entries lent e) ≡ none) × (restAt (e + 1) ≡ none)
+    unfolding restAt patchRefusal
+    rest-none l z = go (entryRefusal o ms (e + 1) (patchAt entries lent e)) (rw (drop-tab-next (patchAt entries lent) (countOf entries) e l) at z)
+      where
+        go : (a : Option Refusal) → orElse a (patchRefusal o ms (suc (e + 1)) (drop (e + 1) (tab (patchAt entries lent) (countOf entries)))) ≡ none
+            → (a ≡ none) × (patchRefusal o ms (e + 1 + 1) (drop (e + 1) (tab (patchAt entries lent) (countOf entries))) ≡ none)
+        go none f = (refl, rw (add-one (e + 1)) f)
+        go (some x) f = not-some x f
 
     pub rest-end : countOf entries ≤ e → restAt e ≡ none
     unfolding restAt patchRefusal

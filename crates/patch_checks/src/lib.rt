@@ -3,7 +3,7 @@ ghost use mathlib.Core.Path.{_≡_};
 ghost use mathlib.Core.Bool.{not};
 ghost use Prim.Native.Nat.{_^_, _<_};
 ghost use lib.Dec.{eqb};
-ghost use lib.ListN.{length, getD};
+ghost use lib.ListN.{getD};
 ghost use Rattle.model.specs.Bytes.{inside, orElse};
 ghost use Rattle.model.specs.Refusals.{noSection, noSymbol, ofEntry, placeRefusal, entryRefusal, patchRefusal};
 ghost use Rattle.model.specs.PatchList.{patchesOf};
