@@ -1,0 +1,3 @@
+-- What the contracts of `function_table` cite, and the laws of its rows.
+pub mod Rows
+pub mod Stored
