@@ -6,14 +6,15 @@ use Prim.Native.Nat.{ℕ, zero, suc, _+_, _<_, _≤_}
 use native.Mathlib.Nat.{zero-add, add-zero, suc-add, add-suc}
 use native.Mathlib.Numerals.{add-one}
 use native.Mathlib.Omega.{arith}
+use borrow.Author.Tests.{le-ltb}
 use lib.Dec.{ltb}
-use lib.ListN.{length, getD, drop, set, length-append, length-drop}
+use lib.ListN.{length, getD, drop, set, replicate, length-append, length-drop}
 use lib.Seq.{drop-cons, drop-length, set-at}
 use Rattle.model.specs.declared.Function.{Function}
 use Rattle.model.specs.Lent.{zeroRow}
 use Rattle.function_table.specs.declared.Made.{Made}
 use Rattle.function_table.specs.declared.Rows.{Rows}
-use Rattle.function_table.specs.Rows.{Risen, rowMade, madeOf, rowsMade}
+use Rattle.function_table.specs.Rows.{Risen, rowMade, madeOf, rowsMade, made-none}
 
 module _ (d order : List ℕ) where
   -- what is left behind k rows from row i on
@@ -91,3 +92,13 @@ module _ (d order : List ℕ) where
 
       pub stored-all : stored (length t) ≡ rowsMade d order 0 rows (length t)
       stored-all = rw (drop-length t, append-nil)
+
+  -- ---- no row is left to store
+
+  pub rows-zero : (i : ℕ) (rows : Rows) (n : ℕ) → rows .count ≡ 0 → rowsMade d order i rows n ≡ replicate n zeroRow
+  unfolding rowsMade
+  rows-zero i rows zero e = refl
+  rows-zero i rows (suc n) e =
+      let b : ltb i (rows .count) ≡ false = le-ltb i (rows .count) (omega arith) in
+      let m : madeOf d order i rows ≡ record { row = zeroRow; rest = rows } = made-none d order i rows (rw b) in
+      rw (m, rows-zero (suc i) rows n e)

@@ -1,0 +1,3 @@
+-- What the contract of `load_core` cites.
+pub mod Done
+pub mod Stub
