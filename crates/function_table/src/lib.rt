@@ -1,6 +1,7 @@
 // The function table in a lent slice of structs: its rows stored in the order of a table of record numbers, and the look-up of a row by section and address.
 ghost use mathlib.Core.Path.{_≡_};
-ghost use Prim.Native.Nat.{_+_, _-_, min};
+ghost use mathlib.Core.List.{[], _∷_};
+ghost use Prim.Native.Nat.{_+_, _-_, _<_, min};
 ghost use lib.ListN.{length};
 ghost use Rattle.model.specs.declared.EbpfSectionKind.{EbpfSectionKind as Kind};
 ghost use Rattle.model.specs.Lent.{zeroRow};
@@ -8,12 +9,15 @@ ghost use Rattle.model.specs.SectionKind.{isKind};
 ghost use Rattle.model.specs.Symbols.{top};
 ghost use Rattle.owner.specs.Owner.{Rise};
 ghost use Rattle.function_table.specs.Rows.{Risen, offsetOf, rowMade, madeOf, rowsMade};
+ghost use Rattle.orders.specs.Compare.{ordering};
+ghost use Rattle.function_table.specs.Search.{rowKey, middleOf, begun, narrowed, foundIn};
 use model::EbpfSectionKind;
 use model::Function;
 use model::Head;
 use model::Range;
 use model::SectionIndex;
 use model::SymbolRecord;
+use orders::Ordering;
 use owner::home;
 use records::section;
 use records::symbol;
@@ -145,4 +149,89 @@ pub fn fill(functions: &mut [Function], d: &[u8], order: &[u32], rows: Rows)
         at = m.rest;
         i += 1;
     }
+}
+
+pub enum Found {
+    At(usize),
+    Nothing,
+}
+
+// What a search has left: the rows from `low` up to `high`; or none, and the row that it found.
+pub struct Search {
+    pub low: usize,
+    pub high: usize,
+    pub found: Found,
+}
+
+fn compare(f: Function, section: SectionIndex, address: u64) -> Ordering
+    ensures { λ r. ⌜ r ≡ ordering (rowKey f) (section .0 ∷ address ∷ []) ⌝ }
+{
+    if f.section.0 < section.0 {
+        return Ordering::Less;
+    }
+    if section.0 < f.section.0 {
+        return Ordering::Greater;
+    }
+    if f.address < address {
+        return Ordering::Less;
+    }
+    if address < f.address {
+        return Ordering::Greater;
+    }
+    Ordering::Equal
+}
+
+// The first `count` rows of n.
+fn begin(count: usize, n: usize) -> Search
+    ensures { λ r. ⌜ r ≡ begun count n ⌝ }
+{
+    Search {
+        low: 0,
+        high: if count < n { count } else { n },
+        found: Found::Nothing,
+    }
+}
+
+fn middle(s: Search) -> usize
+    requires { ⌜ s .low < s .high ⌝ }
+    ensures { λ r. ⌜ r ≡ middleOf s ⌝ }
+{
+    s.low + (s.high - s.low) / 2
+}
+
+// What is left once the middle row was read.
+fn narrow(s: Search, f: Function, section: SectionIndex, address: u64) -> Search
+    requires { ⌜ s .low < s .high ⌝ }
+    ensures { λ r. ⌜ r ≡ narrowed (section .0 ∷ address ∷ []) s f ⌝ }
+{
+    let m = middle(s);
+    match compare(f, section, address) {
+        Ordering::Less => Search {
+            low: m + 1,
+            high: s.high,
+            found: Found::Nothing,
+        },
+        Ordering::Equal => Search {
+            low: m,
+            high: m,
+            found: Found::At(m),
+        },
+        Ordering::Greater => Search {
+            low: s.low,
+            high: m,
+            found: Found::Nothing,
+        },
+    }
+}
+
+// The place of a function among the first `count` rows, by halves: they are ordered by section and address.
+pub fn find(functions: &[Function], count: usize, section: SectionIndex, address: u64) -> Found
+    ensures { λ r. ⌜ r ≡ foundIn (now (functions .entry)) count (section .0 ∷ address ∷ []) ⌝ }
+{
+    let mut s = begin(count, functions.len());
+    while s.low < s.high {
+        let m = middle(s);
+        s = narrow(s, functions[m], section, address);
+    }
+    s.found
 }
