@@ -2,3 +2,5 @@
 pub mod Rows
 pub mod Stored
 pub mod Search
+pub mod Placed
+pub mod Lookup

@@ -1,5 +1,5 @@
 -- The rows of the function table, by the record numbers of its symbols.
-use mathlib.Core.Path.{_≡_, refl}
+use mathlib.Core.Path.{_≡_}
 use mathlib.Core.Bool.{Bool, true, false, cond, _&&_}
 use mathlib.Core.List.{List, [], _∷_}
 use Prim.Native.Nat.{ℕ, zero, suc, _+_, _-_, _*_, _/_, _<_, min}
@@ -15,7 +15,7 @@ use Rattle.model.specs.SectionKind.{isKind, kindOf}
 use Rattle.model.specs.Symbols.{top}
 use Rattle.owner.specs.Owner.{Rise, homeOf}
 use Rattle.records.specs.Records.{sectionAt, symbolAt}
-use Rattle.view.specs.View.{sectionFrom, sectionIn}
+use Rattle.view.specs.View.{sectionFrom}
 use Rattle.function_table.specs.declared.Made.{Made}
 use Rattle.function_table.specs.declared.Rows.{Rows}
 
@@ -24,16 +24,14 @@ abbrev pub Risen : List ℕ → Rows → Type 0
 Risen d rows = 0 < rows .count → Rise d 4 (rows .head)
 
 -- where a function begins in the data of its section: a program's at the symbol's address, another's at that less the section's
-unfoldable pub offsetOf : List ℕ → Head → SymbolRecord → ℕ
-offsetOf d h y =
-    cond (isKind Kind.Program (kindOf (sectionIn d 4 h (homeOf d 4 h y)))) (y .address) (y .address - sectionAt d 4 (homeOf d 4 h y) .address)
+unfoldable pub offsetOf : List ℕ → Head → SectionRecord → SymbolRecord → ℕ
+offsetOf d h s y = cond (isKind Kind.Program (kindOf (sectionFrom d 4 h s))) (y .address) (y .address - s .address)
 
--- by the section's record and its kind
-pub offset-is : (d : List ℕ) (h : Head) (y : SymbolRecord) (i : ℕ) (s : SectionRecord) (k : Kind) (b : Bool)
-    → i ≡ homeOf d 4 h y → s ≡ sectionAt d 4 i → k ≡ kindOf (sectionFrom d 4 h s) → b ≡ isKind Kind.Program k
-    → cond b (y .address) (y .address - s .address) ≡ offsetOf d h y
+-- by the section's kind
+pub offset-is : (d : List ℕ) (h : Head) (s : SectionRecord) (y : SymbolRecord) (k : Kind) (b : Bool)
+    → k ≡ kindOf (sectionFrom d 4 h s) → b ≡ isKind Kind.Program k → cond b (y .address) (y .address - s .address) ≡ offsetOf d h s y
 unfolding offsetOf
-offset-is d h y i s k b e f g q = rw (q, g, f, e)
+offset-is d h s y k b e f = rw (f, e)
 
 -- a function's code is whole instructions
 abbrev pub codeLength : SymbolRecord → ℕ
@@ -43,12 +41,13 @@ codeLength y = y .size / 8 * 8
 unfoldable pub rowMade : List ℕ → ℕ → Rows → Made
 rowMade d j rows =
     let y : SymbolRecord = symbolAt d 4 (rows .head) j in
+    let s : SectionRecord = sectionAt d 4 (homeOf d 4 (rows .head) y) in
     record {
       row =
           record {
-            section = y .section;
+            section = s .index;
             address = y .address;
-            offset = offsetOf d (rows .head) y;
+            offset = offsetOf d (rows .head) s y;
             name = range (rows .name) (y .name .length);
             code = range (rows .code) (codeLength y);
           };

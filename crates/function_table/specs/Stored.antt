@@ -95,10 +95,13 @@ module _ (d order : List ℕ) where
 
   -- ---- no row is left to store
 
-  pub rows-zero : (i : ℕ) (rows : Rows) (n : ℕ) → rows .count ≡ 0 → rowsMade d order i rows n ≡ replicate n zeroRow
+  pub rows-past : (i : ℕ) (rows : Rows) (n : ℕ) → rows .count ≤ i → rowsMade d order i rows n ≡ replicate n zeroRow
   unfolding rowsMade
-  rows-zero i rows zero e = refl
-  rows-zero i rows (suc n) e =
-      let b : ltb i (rows .count) ≡ false = le-ltb i (rows .count) (omega arith) in
+  rows-past i rows zero h = refl
+  rows-past i rows (suc n) h =
+      let b : ltb i (rows .count) ≡ false = le-ltb i (rows .count) h in
       let m : madeOf d order i rows ≡ record { row = zeroRow; rest = rows } = made-none d order i rows (rw b) in
-      rw (m, rows-zero (suc i) rows n e)
+      rw (m, rows-past (suc i) rows n (omega arith))
+
+  pub rows-zero : (rows : Rows) (n : ℕ) → rows .count ≡ 0 → rowsMade d order 0 rows n ≡ replicate n zeroRow
+  rows-zero rows n e = rows-past 0 rows n (omega arith)

@@ -16,6 +16,7 @@ use model::Function;
 use model::Head;
 use model::Range;
 use model::SectionIndex;
+use model::SectionRecord;
 use model::SymbolRecord;
 use orders::Ordering;
 use owner::home;
@@ -64,11 +65,9 @@ fn is_program(kind: EbpfSectionKind) -> bool
 }
 
 // Where a function begins in the data of its section.
-fn offset(d: &[u8], h: Head, y: SymbolRecord) -> u64
-    requires { ⌜ Rise (now d) 4 h ⌝ }
-    ensures { λ r. ⌜ r ≡ offsetOf (now (d .entry)) h y ⌝ }
+fn offset(d: &[u8], h: Head, s: SectionRecord, y: SymbolRecord) -> u64
+    ensures { λ r. ⌜ r ≡ offsetOf (now (d .entry)) h s y ⌝ }
 {
-    let s = section(d, 4, home(d, 4, h, y));
     if is_program(kind_of(d, 4, h, s)) {
         y.address
     } else {
@@ -83,14 +82,15 @@ fn row(d: &[u8], j: u32, rows: Rows) -> Made
 {
     let h = rows.head;
     let y = symbol(d, 4, h, j);
-    let section = y.section;
+    let s = section(d, 4, home(d, 4, h, y));
+    let index = s.index;
     let name = wide64(y.name.length);
     let code = y.size / 8 * 8;
     Made {
         row: Function {
-            section,
+            section: index,
             address: y.address,
-            offset: offset(d, h, y),
+            offset: offset(d, h, s, y),
             name: Range {
                 at: rows.name,
                 length: name,

@@ -13,7 +13,7 @@ use base.Logic.{SProp, ent, emp, via, fst∗, id⊢}
 use base.Fml.{Lft, Share, ftrue, fat, flft}
 use prog.Wp.{Heap, Env, Calls, Loops, WpFn, Tables}
 use ghost.Atoms.{Atoms}
-use contract.Monad.{Fun, fact}
+use contract.Monad.{fact}
 use types.Kit.{Given, Item, atRet, ‵, raw, _⊛_, some, later, ⋆, _$_, _∵_, !, qed, by, move, keep, drop, use1, use2, rewrite, split, join, pick, fsplit, fjoin, feqL, frame, await, done}
 use types.Part.{whole, sub, look-in, agg}
 use types.Run.{look, init, forget, stop, hop, fld, from, load, of-opd, addr, and-then, no-more, land, land-last, assigns, first, branches, exec, returns, enter, alloc1, alloc0, params1, pass1, pass0, free1, free0}

@@ -1,5 +1,4 @@
 // The load call without the function table: its answer, the lent tables and bytes, and which rows of the function table are to be stored.
-ghost use mathlib.Core.Path.{_≡_};
 ghost use Prim.Native.Nat.{_*_, _≤_, min};
 ghost use lib.ListN.{length};
 ghost use Rattle.load_core.specs.Stub.{loadOf};

@@ -6,7 +6,6 @@ use native.Mathlib.Nat.{le-antisymm, le-of-eq, lt-of-le-of-lt}
 use native.Mathlib.Numerals.{add-one-le}
 use native.Mathlib.Omega.{arith}
 use mathlib.Core.List.{List, [], _∷_}
-use lib.Arith.{sub-dec}
 use lib.Dec.{T, ltb, ltb→lt, nltb→le, lit<}
 use lib.ListN.{length}
 use lib.WfN.{Nat·lt-wfRel}
@@ -53,7 +52,7 @@ use Rattle.model.specs.declared.Function.{Function}
 use Rattle.model.specs.Lent.{zeroRow}
 use Rattle.function_table.specs.declared.Made.{Made}
 use Rattle.function_table.specs.declared.Rows.{Rows}
-use Rattle.function_table.specs.Rows.{Risen, madeOf, rowsMade}
+use Rattle.function_table.specs.Rows.{Risen, madeOf}
 use Rattle.function_table.specs.Stored as S
 use Rattle.function_table.proofs.Parts.{rest-of}
 use Rattle.model.proofs.Function as T

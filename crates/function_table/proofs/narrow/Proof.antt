@@ -4,50 +4,37 @@ use Rattle.function_table.specs.Search.{narrowed-is}
 use borrow.Author.Needs.{needs}
 use Rattle.function_table.proofs.narrow.Statement.{statement}
 use Rattle.function_table.proofs.narrow.Tie as tie
-use Rattle.function_table.proofs.narrow.Reads as reads
-use Rattle.function_table.proofs.narrow.Lts as lts
-use Rattle.function_table.proofs.compare.Reads as compare-reads
-use Rattle.function_table.proofs.middle.Reads as middle-reads
 
--- src/lib.rt:207:9
 middle-requires : tie.Need-middle-requires
 middle-requires c κs = search needs
 
--- src/lib.rt:208:11
 compare-requires : tie.Need-compare-requires
 compare-requires c κs = search needs
 
--- src/lib.rt:210:18
 enum-told : tie.Need-enum-told
 enum-told c = search needs
 
--- src/lib.rt:210:18
 add-t8 : tie.Need-add-t8
 add-t8 c = search needs
 
--- src/lib.rt:217:20
 enum-told-2 : tie.Need-enum-told-2
 enum-told-2 c = search needs
 
--- src/lib.rt:222:20
 enum-told-3 : tie.Need-enum-told-3
 enum-told-3 c = search needs
 
--- src/lib.rt:203:1
 returns : tie.Need-returns
 returns c =
     let o = c .before .before in
     let a = o .before .before .args in
     rw (c .enum-told .given .1) at (narrowed-is (a .section .0 ∷ a .address ∷ []) (a .s) (a .f) (o .before .middle .result) (o .compare .result) (o .before .middle .ensures) (o .compare .ensures))
 
--- src/lib.rt:203:1
 returns-2 : tie.Need-returns-2
 returns-2 c =
     let o = c .before .before in
     let a = o .before .before .args in
     rw (c .enum-told2 .given .1) at (narrowed-is (a .section .0 ∷ a .address ∷ []) (a .s) (a .f) (o .before .middle .result) (o .compare .result) (o .before .middle .ensures) (o .compare .ensures))
 
--- src/lib.rt:203:1
 returns-3 : tie.Need-returns-3
 returns-3 c =
     let o = c .before .before in

@@ -1,16 +1,10 @@
--- `function_table::offset` meets its contract: by the kind of the symbol's section.
+-- `function_table::offset` meets its contract: by the kind of the section.
 use denote.Ref.{now}
-use mathlib.Core.Path.{sym, _∙_}
+use mathlib.Core.Path.{_∙_}
 use Rattle.function_table.specs.Rows.{offset-is}
 use borrow.Author.Needs.{needs}
 use Rattle.function_table.proofs.offset.Statement.{statement}
 use Rattle.function_table.proofs.offset.Tie as tie
-
-home-requires : tie.Need-home-requires
-home-requires c κs = search needs
-
-section-requires : tie.Need-section-requires
-section-requires c κs = search needs
 
 kind-of-requires : tie.Need-kind-of-requires
 kind-of-requires c κs = search needs
@@ -24,29 +18,16 @@ difference-requires c κs = search needs
 returns : tie.Need-returns
 returns c =
     let k = c .before .before in
-    let s = k .before in
-    let h = s .before in
-    let a = h .before .before .args in
-    rw (c .if1 .taken) at (offset-is (now (a .d)) (a .h) (a .y) (h .home .result) (s .section .result) (k .kind-of .result) (c .before .is-program .result) (h .home .ensures) (s .section .ensures) (k .kind-of .ensures) (c .before .is-program .ensures))
+    let a = k .before .before .args in
+    rw (c .if1 .taken) at (offset-is (now (a .d)) (a .h) (a .s) (a .y) (k .kind-of .result) (c .before .is-program .result) (k .kind-of .ensures) (c .before .is-program .ensures))
 
 returns-2 : tie.Need-returns-2
 returns-2 c =
     let e = c .before in
     let k = e .before .before in
-    let s = k .before in
-    let h = s .before in
-    let a = h .before .before .args in
+    let a = k .before .before .args in
     c .difference .ensures
-    ∙ rw (e .if1 .left) at (offset-is (now (a .d)) (a .h) (a .y) (h .home .result) (s .section .result) (k .kind-of .result) (e .before .is-program .result) (h .home .ensures) (s .section .ensures) (k .kind-of .ensures) (e .before .is-program .ensures))
+    ∙ rw (e .if1 .left) at (offset-is (now (a .d)) (a .h) (a .s) (a .y) (k .kind-of .result) (e .before .is-program .result) (k .kind-of .ensures) (e .before .is-program .ensures))
 
 pub offset-spec : {M : Type 1} → statement M
-offset-spec =
-    tie.close
-    (tie.spec
-    home-requires
-    section-requires
-    kind-of-requires
-    is-program-requires
-    difference-requires
-    returns
-    returns-2)
+offset-spec = tie.close (tie.spec kind-of-requires is-program-requires difference-requires returns returns-2)

@@ -6,10 +6,6 @@ use Rattle.load_core.specs.Stub.{loadOf}
 use borrow.Author.Needs.{needs}
 use Rattle.load_core.proofs.load_core.Statement.{statement}
 use Rattle.load_core.proofs.load_core.Tie as tie
-use Rattle.load_core.proofs.load_core.Reads as reads
-use Rattle.load_core.proofs.load_core.Lts as lts
-use Rattle.lists.proofs.zero64.Reads as zero64-reads
-use Rattle.lists.proofs.zero8.Reads as zero8-reads
 
 -- src/lib.rt:38:5
 zero64-requires : tie.Need-zero64-requires
