@@ -60,6 +60,17 @@ rowMade d j rows =
           };
     }
 
+-- by what was read: the symbol, its section and the lengths
+pub row-made : (d : List ℕ) (j : ℕ) (rows : Rows) (y : SymbolRecord) (i : ℕ) (s : SectionRecord) (o l n c : ℕ)
+    → y ≡ symbolAt d 4 (rows .head) j → i ≡ homeOf d 4 (rows .head) y → s ≡ sectionAt d 4 i → o ≡ offsetOf d (rows .head) s y
+    → l ≡ y .name .length → n ≡ min (rows .name + l) top → c ≡ min (rows .code + codeLength y) top
+    → record {
+      row = record { section = s .index; address = y .address; offset = o; name = range (rows .name) l; code = range (rows .code) (codeLength y) };
+      rest = record { head = rows .head; count = rows .count; name = n; code = c };
+    } ≡ rowMade d j rows
+unfolding rowMade
+row-made d j rows y i s o l n c e f g p q u v = rw (v, u, q, p, g, f, e)
+
 -- row i of the numbers, and what is left; past the last number a row of zeros
 unfoldable pub madeOf : List ℕ → List ℕ → ℕ → Rows → Made
 madeOf d order i rows = cond (ltb i (rows .count) && ltb i (length order)) (rowMade d (getD order i 0) rows) (record { row = zeroRow; rest = rows })

@@ -1,5 +1,6 @@
 -- `function_table::row` meets its contract: each field by the record that was read.
-use Rattle.function_table.specs.Rows.{rowMade}
+use denote.Ref.{now}
+use Rattle.function_table.specs.Rows.{row-made}
 use borrow.Author.Needs.{needs}
 use Rattle.function_table.proofs.row.Statement.{statement}
 use Rattle.function_table.proofs.row.Tie as tie
@@ -29,8 +30,14 @@ capped-sum-requires-2 : tie.Need-capped-sum-requires-2
 capped-sum-requires-2 c κs = search needs
 
 returns : tie.Need-returns
-unfolding rowMade
-returns c = cc
+returns c =
+    let o = c .before .before in
+    let w = o .before .before in
+    let s = w .before .before in
+    let y = s .before .before in
+    let a = y .before .before .before .args in
+    row-made (now (a .d)) (a .j) (a .rows) (y .symbol .result) (s .before .home .result) (s .section .result) (o .offset .result) (w .wide64 .result) (c .before .capped-sum .result) (c .capped-sum2 .result)
+    (y .symbol .ensures) (s .before .home .ensures) (s .section .ensures) (o .offset .ensures) (w .wide64 .ensures .0) (c .before .capped-sum .ensures) (c .capped-sum2 .ensures)
 
 pub row-spec : {M : Type 1} → statement M
 row-spec =

@@ -58,7 +58,7 @@ returns c =
       maps = c .before .before .before .before .before .before .before .before .before .before .zero643 .ensures;
       relocations = c .before .before .before .before .before .before .zero644 .ensures;
       bytes = c .before .before .zero8 .ensures;
-      functions = rows-zero _ _ 0 _ _ refl;
+      functions = rows-zero _ _ _ _ refl;
       risen = λ l. absurd (not-suc-le-zero l);
     }
 
