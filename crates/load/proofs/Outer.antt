@@ -26,7 +26,7 @@ use denote.Triple.Walked.{says, Stays, gave-slice, stay-dropped, walkOf, goes-ga
 use denote.Exit.{yes}
 use Rattle.model.specs.declared.Answer.{Answer}
 use Rattle.model.specs.declared.Function.{Function}
-use Rattle.load_core.specs.Stub.{loadOf}
+use Rattle.model.specs.Lent.{loadOf}
 use Rattle.load_core.specs.Done.{lentRoom}
 use Rattle.load.specs.Loads.{Loads}
 use Rattle.model.proofs.Function as T

@@ -39,8 +39,7 @@ use denote.Triple.Spec.{Meets, tripleOf}
 use denote.Triple.Walked.{says}
 use Rattle.model.specs.declared.Answer.{Answer}
 use Rattle.model.specs.declared.Function.{Function}
-use Rattle.model.specs.Lent.{Outcome}
-use Rattle.load_core.specs.Stub.{loadOf}
+use Rattle.model.specs.Lent.{Outcome, loadOf}
 use Rattle.function_table.specs.declared.Rows.{Rows}
 use Rattle.function_table.specs.Rows.{Risen, rowsMade}
 use Rattle.load_core.specs.declared.Loaded.{Loaded}

@@ -3,7 +3,7 @@ ghost use mathlib.Core.Path.{_≡_};
 ghost use Prim.Native.Nat.{_≤_};
 ghost use lib.Dec.{leb};
 ghost use lib.ListN.{length};
-ghost use Rattle.load_core.specs.Stub.{loadOf};
+ghost use Rattle.model.specs.Lent.{loadOf};
 ghost use Rattle.load_core.specs.Done.{lentRoom};
 ghost use Rattle.load.specs.Loads.{Loads};
 use function_table::fill;

@@ -1,3 +1,2 @@
 -- What the contract of `load_core` cites.
 pub mod Done
-pub mod Stub

@@ -1,7 +1,7 @@
 // The load call without the function table: its answer, the lent tables and bytes, and which rows of the function table are to be stored.
 ghost use Prim.Native.Nat.{_*_, _≤_, min};
 ghost use lib.ListN.{length};
-ghost use Rattle.load_core.specs.Stub.{loadOf};
+ghost use Rattle.model.specs.Lent.{loadOf};
 ghost use Rattle.load_core.specs.Done.{lentRoom, CoreDone};
 use function_table::Rows;
 use lists::zero8;
