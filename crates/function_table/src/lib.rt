@@ -1,0 +1,237 @@
+// The function table in a lent slice of structs: its rows stored in the order of a table of record numbers, and the look-up of a row by section and address.
+ghost use mathlib.Core.Path.{_≡_};
+ghost use mathlib.Core.List.{[], _∷_};
+ghost use Prim.Native.Nat.{_+_, _-_, _<_, min};
+ghost use lib.ListN.{length};
+ghost use Rattle.model.specs.declared.EbpfSectionKind.{EbpfSectionKind as Kind};
+ghost use Rattle.model.specs.Lent.{zeroRow};
+ghost use Rattle.model.specs.SectionKind.{isKind};
+ghost use Rattle.model.specs.Symbols.{top};
+ghost use Rattle.owner.specs.Owner.{Rise};
+ghost use Rattle.function_table.specs.Rows.{Risen, offsetOf, rowMade, madeOf, rowsMade};
+ghost use Rattle.orders.specs.Compare.{ordering};
+ghost use Rattle.function_table.specs.Search.{rowKey, middleOf, begun, narrowed, foundIn};
+use model::EbpfSectionKind;
+use model::Function;
+use model::Head;
+use model::Range;
+use model::SectionIndex;
+use model::SectionRecord;
+use model::SymbolRecord;
+use orders::Ordering;
+use owner::home;
+use records::section;
+use records::symbol;
+use stream::wide64;
+use view::kind_of;
+
+// Which rows are left to store: those of the first `count` numbers, and where the next name and the next code lie.
+pub struct Rows {
+    pub head: Head,
+    pub count: usize,
+    pub name: u64,
+    pub code: u64,
+}
+
+pub struct Made {
+    pub row: Function,
+    pub rest: Rows,
+}
+
+// A sum that stays at the largest number.
+fn capped_sum(x: u64, y: u64) -> u64
+    ensures { λ r. ⌜ r ≡ min (x + y) top ⌝ }
+{
+    if y <= 18446744073709551615 - x {
+        x + y
+    } else {
+        18446744073709551615
+    }
+}
+
+fn difference(x: u64, y: u64) -> u64
+    ensures { λ r. ⌜ r ≡ x - y ⌝ }
+{
+    if y < x { x - y } else { 0 }
+}
+
+fn is_program(kind: EbpfSectionKind) -> bool
+    ensures { λ r. ⌜ r ≡ isKind Kind.Program kind ⌝ }
+{
+    match kind {
+        EbpfSectionKind::Program => true,
+        _ => false,
+    }
+}
+
+// Where a function begins in the data of its section.
+fn offset(d: &[u8], h: Head, s: SectionRecord, y: SymbolRecord) -> u64
+    ensures { λ r. ⌜ r ≡ offsetOf (now (d .entry)) h s y ⌝ }
+{
+    if is_program(kind_of(d, 4, h, s)) {
+        y.address
+    } else {
+        difference(y.address, s.address)
+    }
+}
+
+// The row of symbol record j.
+fn row(d: &[u8], j: u32, rows: Rows) -> Made
+    requires { ⌜ Rise (now d) 4 (rows .head) ⌝ }
+    ensures { λ r. ⌜ r ≡ rowMade (now (d .entry)) j rows ⌝ }
+{
+    let h = rows.head;
+    let y = symbol(d, 4, h, j);
+    let s = section(d, 4, home(d, 4, h, y));
+    let index = s.index;
+    let name = wide64(y.name.length);
+    let code = y.size / 8 * 8;
+    Made {
+        row: Function {
+            section: index,
+            address: y.address,
+            offset: offset(d, h, s, y),
+            name: Range {
+                at: rows.name,
+                length: name,
+            },
+            code: Range {
+                at: rows.code,
+                length: code,
+            },
+        },
+        rest: Rows {
+            head: h,
+            count: rows.count,
+            name: capped_sum(rows.name, name),
+            code: capped_sum(rows.code, code),
+        },
+    }
+}
+
+fn zero_row() -> Function
+    ensures { λ r. ⌜ r ≡ zeroRow ⌝ }
+{
+    Function {
+        section: SectionIndex(0),
+        address: 0,
+        offset: 0,
+        name: Range { at: 0, length: 0 },
+        code: Range { at: 0, length: 0 },
+    }
+}
+
+// Row i, and what is left behind it; past the last number a row of zeros.
+pub fn next_row(d: &[u8], order: &[u32], i: usize, rows: Rows) -> Made
+    requires { ⌜ Risen (now d) rows ⌝ }
+    ensures { λ r. ⌜ r ≡ madeOf (now (d .entry)) (now (order .entry)) i rows ⌝ }
+{
+    if i < rows.count && i < order.len() {
+        row(d, order[i], rows)
+    } else {
+        Made {
+            row: zero_row(),
+            rest: rows,
+        }
+    }
+}
+
+pub fn fill(functions: &mut [Function], d: &[u8], order: &[u32], rows: Rows)
+    requires { ⌜ Risen (now d) rows ⌝ }
+    ensures { λ _. ⌜ now (functions .exit) ≡ rowsMade (now (d .entry)) (now (order .entry)) 0 rows (length (now (functions .entry))) ⌝ }
+{
+    let n = functions.len();
+    let mut at = rows;
+    let mut i = 0;
+    while i < n {
+        let m = next_row(d, order, i, at);
+        functions[i] = m.row;
+        at = m.rest;
+        i += 1;
+    }
+}
+
+pub enum Found {
+    At(usize),
+    Nothing,
+}
+
+// What a search has left: the rows from `low` up to `high`; or none, and the row that it found.
+pub struct Search {
+    pub low: usize,
+    pub high: usize,
+    pub found: Found,
+}
+
+fn compare(f: Function, section: SectionIndex, address: u64) -> Ordering
+    ensures { λ r. ⌜ r ≡ ordering (rowKey f) (section .0 ∷ address ∷ []) ⌝ }
+{
+    if f.section.0 < section.0 {
+        return Ordering::Less;
+    }
+    if section.0 < f.section.0 {
+        return Ordering::Greater;
+    }
+    if f.address < address {
+        return Ordering::Less;
+    }
+    if address < f.address {
+        return Ordering::Greater;
+    }
+    Ordering::Equal
+}
+
+// The first `count` rows of n.
+fn begin(count: usize, n: usize) -> Search
+    ensures { λ r. ⌜ r ≡ begun count n ⌝ }
+{
+    Search {
+        low: 0,
+        high: if count < n { count } else { n },
+        found: Found::Nothing,
+    }
+}
+
+fn middle(s: Search) -> usize
+    requires { ⌜ s .low < s .high ⌝ }
+    ensures { λ r. ⌜ r ≡ middleOf s ⌝ }
+{
+    s.low + (s.high - s.low) / 2
+}
+
+// What is left once the middle row was read.
+fn narrow(s: Search, f: Function, section: SectionIndex, address: u64) -> Search
+    requires { ⌜ s .low < s .high ⌝ }
+    ensures { λ r. ⌜ r ≡ narrowed (section .0 ∷ address ∷ []) s f ⌝ }
+{
+    let m = middle(s);
+    match compare(f, section, address) {
+        Ordering::Less => Search {
+            low: m + 1,
+            high: s.high,
+            found: Found::Nothing,
+        },
+        Ordering::Equal => Search {
+            low: m,
+            high: m,
+            found: Found::At(m),
+        },
+        Ordering::Greater => Search {
+            low: s.low,
+            high: m,
+            found: Found::Nothing,
+        },
+    }
+}
+
+// The place of a function among the first `count` rows, by halves: they are ordered by section and address.
+pub fn find(functions: &[Function], count: usize, section: SectionIndex, address: u64) -> Found
+    ensures { λ r. ⌜ r ≡ foundIn (now (functions .entry)) count (section .0 ∷ address ∷ []) ⌝ }
+{
+    let mut s = begin(count, functions.len());
+    while s.low < s.high {
+        let m = middle(s);
+        s = narrow(s, functions[m], section, address);
+    }
+    s.found
+}

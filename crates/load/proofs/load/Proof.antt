@@ -1,0 +1,28 @@
+-- `load::load` meets its contract: `Choice.antt`'s walk, at 8192 bytes.
+use contract.Running.{givenOf, tables, tablesOf}
+use denote.Triple.Spec.{tripleOf}
+use denote.Triple.Table.{entered, cited}
+use Rattle.load.proofs.Choice.{most, nought, TestAt, LoadsAt, chosen}
+use Rattle.load.proofs.is_small.Symbol as is-small-def
+use Rattle.load.proofs.is_small.Symbol.{name as #is-small}
+use Rattle.load.proofs.is_small.Met as is-small-thm
+use Rattle.load.proofs.load_small.Symbol as load-small-def
+use Rattle.load.proofs.load_small.Symbol.{name as #load-small}
+use Rattle.load.proofs.load_small.Met as load-small-thm
+use Rattle.load.proofs.load_more.Symbol as load-more-def
+use Rattle.load.proofs.load_more.Symbol.{name as #load-more}
+use Rattle.load.proofs.load_more.Met as load-more-thm
+use Rattle.load.proofs.load.Key.{name as #load}
+use Rattle.load.proofs.load as load′
+use Rattle.load.proofs.load.Statement as stated
+use Rattle.load.proofs.load.Code as code
+
+pub load-spec : {M : Type 1} → stated.statement M
+unfolding code.routine tablesOf
+load-spec 𝓤 H 𝓜 𝓖 𝓡 =
+    entered 𝓤 H (tripleOf 𝓤 H (𝓖 .A) load′.signature (load′.spec 𝓤 H (𝓖 .A) (𝓜 .mem) (𝓡 .run)))
+    (tables 𝓤 H 𝓜 𝓡 code.env .C) (tables 𝓤 H 𝓜 𝓡 code.env .Λ) #load code.function (code.unfolded 𝓤 H 𝓜 𝓡)
+    (chosen 𝓤 H (𝓖 .A) (givenOf 𝓤 H 𝓜 𝓖) 8192 #is-small #load-small #load-more (tablesOf 𝓤 H 𝓜 (tables 𝓤 H 𝓜 𝓡 code.env))
+    (cited 𝓤 H (TestAt 𝓤 H (𝓖 .A) (givenOf 𝓤 H 𝓜 𝓖) 8192) 𝓜 𝓡 code.env #is-small is-small-def.routine code.calls-load·is-small (is-small-thm.met 𝓤 H 𝓜 𝓖 𝓡))
+    (cited 𝓤 H (LoadsAt 𝓤 H (𝓖 .A) (givenOf 𝓤 H 𝓜 𝓖) (most 𝓤 8192)) 𝓜 𝓡 code.env #load-small load-small-def.routine code.calls-load·load-small (load-small-thm.met 𝓤 H 𝓜 𝓖 𝓡))
+    (cited 𝓤 H (LoadsAt 𝓤 H (𝓖 .A) (givenOf 𝓤 H 𝓜 𝓖) (nought 𝓤)) 𝓜 𝓡 code.env #load-more load-more-def.routine code.calls-load·load-more (load-more-thm.met 𝓤 H 𝓜 𝓖 𝓡)))

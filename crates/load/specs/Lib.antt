@@ -1,0 +1,2 @@
+-- What the contract of `load` cites.
+pub mod Loads

@@ -1,0 +1,2 @@
+-- What the contract of `load_core` cites.
+pub mod Done
