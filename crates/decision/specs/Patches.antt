@@ -41,3 +41,8 @@ module _ (d : List ℕ) (gap : ℕ) (h : Head) where
       → by ≡ mapPlaces d gap h (take n maps) ++ rest → Sited d gap h maps n by
   sited maps n by rest t r ok l e f =
       record { small = r .gap-small; rise = r .rise; within = l; fits = all-maps d gap h n maps l t r ok e; places = places-front (take n maps) by rest f }
+
+  -- a part of a longer list
+  pub ready-part : (entries maps : List ℕ) (n : ℕ) (order rest by : List ℕ) → length order ≡ h .symbols → Ready d gap h entries maps n order by
+      → Ready d gap h entries maps n (take (h .symbols) (order ++ rest)) by
+  ready-part entries maps n order rest by l r = rw (take-at order rest (h .symbols) l) r

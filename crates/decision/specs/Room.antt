@@ -98,3 +98,35 @@ module _ (r : Room) (n : Counts) (count size : ℕ) where
       → leb size (r .bytes) ≡ fitsBy r n count size
   unfolding fitsBy
   roomy-but-bytes e₁ e₂ e₃ e₄ e₅ = rw (le-leb _ _ e₁, le-leb _ _ e₂, le-leb _ _ e₃, le-leb _ _ e₄, le-leb _ _ e₅)
+
+-- what fits, table by table
+pub record Spacious (c : Catalogue) (r : LentRoom) : Type 0 where
+  pub sections : length (c .sections) * 4 ≤ r .sections
+  pub programs : length (c .programs) * 7 ≤ r .programs
+  pub functions : length (c .functions) ≤ r .functions
+  pub maps : length (c .maps) * 27 ≤ r .maps
+  pub relocations : length (c .relocations) * 4 ≤ r .relocations
+  pub bytes : length (bytesOf c) ≤ r .bytes
+
+pub spacious : (c : Catalogue) (r : LentRoom) → fitsIn r (imageOf c) ≡ true → Spacious c r
+unfolding fitsIn
+spacious c r e =
+    let (t₁, u₁) = both-true _ _ e in
+    let (t₂, u₂) = both-true _ _ u₁ in
+    let (t₃, u₃) = both-true _ _ u₂ in
+    let (t₄, u₄) = both-true _ _ u₃ in
+    let (t₅, t₆) = both-true _ _ u₄ in
+    let q₁ : length (imageOf c .sections) ≤ r .sections = leb-true _ _ t₁ in
+    let q₂ : length (imageOf c .programs) ≤ r .programs = leb-true _ _ t₂ in
+    let q₃ : length (imageOf c .functions) ≤ r .functions = leb-true _ _ t₃ in
+    let q₄ : length (imageOf c .maps) ≤ r .maps = leb-true _ _ t₄ in
+    let q₅ : length (imageOf c .relocations) ≤ r .relocations = leb-true _ _ t₅ in
+    let q₆ : length (imageOf c .bytes) ≤ r .bytes = leb-true _ _ t₆ in
+    record {
+      sections = rw (long-sections c) at q₁;
+      programs = rw (long-programs c) at q₂;
+      functions = rw (long-functions c) at q₃;
+      maps = rw (long-maps c) at q₄;
+      relocations = rw (long-relocations c) at q₅;
+      bytes = rw (image-bytes c) at q₆;
+    }

@@ -3,6 +3,7 @@ ghost use mathlib.Core.Path.{_≡_};
 ghost use mathlib.Core.Option.{none};
 ghost use Prim.Native.Nat.{_≤_};
 ghost use lib.ListN.{length, take};
+ghost use Rattle.model.specs.Lent.{tooSmall as tooSmallOf};
 ghost use Rattle.model.specs.PatchList.{patchesOf};
 ghost use Rattle.model.specs.Refusals.{objectRefusal, patchRefusal};
 ghost use Rattle.catalogue.specs.Numbers.{mapNumbers};
@@ -10,6 +11,8 @@ ghost use Rattle.accepted.specs.Readable.{Readable};
 ghost use Rattle.view.specs.Checked.{checkedOf};
 ghost use Rattle.view.specs.View.{objectIn};
 ghost use Rattle.bytes.specs.Parts.{catalogue};
+ghost use Rattle.bytes.specs.Held.{Held};
+ghost use Rattle.decision.specs.Decided.{Decides, Relocated, Scratch};
 ghost use Rattle.decision.specs.Patches.{Ready};
 ghost use Rattle.decision.specs.Room.{fitsBy};
 use bearers::by_name;
@@ -17,8 +20,13 @@ use bytes::Places;
 use map_places::maps_by_section;
 use model::Head;
 use model::Refusal;
+use model::SectionIndex;
+use model::SymbolIndex;
 use patch_checks::patch_refusal;
+use relocation_rows::put_relocation_rows;
+use stream::size;
 use tables::Counts;
+use tables::Tables;
 use view::Checked;
 
 // The lengths of what is lent: of the function table in rows, of the others in numbers, of the bytes in bytes.
@@ -86,4 +94,158 @@ fn check_patches(
     by_name(d, gap, h, order, tmp);
     maps_by_section(d, gap, h, maps, n, by);
     patch_refusal(d, gap, h, entries, patches, order, maps, n, by)
+}
+
+fn too_small() -> Refusal
+    ensures { λ r. ⌜ r ≡ tooSmallOf ⌝ }
+{
+    Refusal {
+        number: 24,
+        section: SectionIndex(0),
+        symbol: SymbolIndex(0),
+        entry: 0,
+    }
+}
+
+// Numbers 18 to 24 of an object that is not refused; n and relocations are the counts of its tables.
+fn check_room(
+    d: &[u8],
+    gap: usize,
+    h: Head,
+    entries: &[u64],
+    patches: &[u8],
+    room: Room,
+    n: Counts,
+    relocations: usize,
+    sections: &[u32],
+    programs: &[u32],
+    functions: &[u32],
+    maps: &[u32],
+    order: &mut [u32],
+    tmp: &mut [u32],
+    by: &mut [u32],
+) -> Decision
+    requires { ⌜ Readable (now d) gap h × (objectRefusal (objectIn (now d) gap h) ≡ none) × Held (now d) gap h n (now sections) (now programs) (now functions) (now maps) × (relocations ≡ length (catalogue (now d) gap h .relocations)) × (h .symbols ≤ length (now order)) × (h .symbols ≤ length (now tmp)) × (h .sections ≤ length (now by)) ⌝ }
+    ensures { λ r. ⌜ Decides (now (d .entry)) gap h (now (entries .entry)) (now (patches .entry)) room r (now (sections .entry)) (now (programs .entry)) (now (functions .entry)) (now (maps .entry)) (now (order .exit)) (now (by .exit)) ⌝ }
+{
+    let y = size(h.symbols);
+    let checked = check_patches(
+        d,
+        gap,
+        h,
+        entries,
+        patches,
+        maps,
+        n.maps,
+        &mut order[0..y],
+        &mut tmp[0..y],
+        by,
+    );
+    if let Checked::Refused(r) = checked {
+        return Decision::Refused(r);
+    }
+    let places = bytes::layout(d, gap, h, n, sections, programs, functions, maps);
+    if !fits(room, n, relocations, places.end) {
+        return Decision::Refused(too_small());
+    }
+    Decision::Accepted(Plan {
+        counts: n,
+        relocations: relocations,
+        places: places,
+    })
+}
+
+// The same with the relocations counted, whose rows are stored while they are.
+fn check_numbers(
+    d: &[u8],
+    gap: usize,
+    h: Head,
+    entries: &[u64],
+    patches: &[u8],
+    room: Room,
+    n: Counts,
+    sections: &[u32],
+    programs: &[u32],
+    functions: &[u32],
+    maps: &[u32],
+    tmp: &mut [u32],
+    order: &mut [u32],
+    by: &mut [u32],
+    relocations: &mut [u64],
+) -> Decision
+    requires { ⌜ Readable (now d) gap h × (objectRefusal (objectIn (now d) gap h) ≡ none) × Held (now d) gap h n (now sections) (now programs) (now functions) (now maps) × (h .symbols ≤ length (now order)) × (h .relocations ≤ length (now order)) × (h .symbols ≤ length (now tmp)) × (h .relocations ≤ length (now tmp)) × (h .sections ≤ length (now by)) × (room .relocations ≡ length (now relocations)) ⌝ }
+    ensures { λ r. ⌜ Decides (now (d .entry)) gap h (now (entries .entry)) (now (patches .entry)) room r (now (sections .entry)) (now (programs .entry)) (now (functions .entry)) (now (maps .entry)) (now (order .exit)) (now (by .exit)) × Relocated (now (d .entry)) gap h (now (entries .entry)) (now (patches .entry)) room r (now (relocations .entry)) (now (relocations .exit)) ⌝ }
+{
+    let count = put_relocation_rows(d, gap, h, order, tmp, relocations);
+    check_room(
+        d,
+        gap,
+        h,
+        entries,
+        patches,
+        room,
+        n,
+        count,
+        sections,
+        programs,
+        functions,
+        maps,
+        order,
+        tmp,
+        by,
+    )
+}
+
+// Numbers 4 to 24.
+pub fn decide(
+    d: &[u8],
+    gap: usize,
+    h: Head,
+    entries: &[u64],
+    patches: &[u8],
+    room: Room,
+    sections: &mut [u32],
+    programs: &mut [u32],
+    functions: &mut [u32],
+    maps: &mut [u32],
+    tmp: &mut [u32],
+    order: &mut [u32],
+    by: &mut [u32],
+    relocations: &mut [u64],
+) -> Decision
+    requires { ⌜ Readable (now d) gap h × Scratch h (now sections) (now programs) (now functions) (now maps) (now tmp) (now order) (now by) × (room .relocations ≡ length (now relocations)) ⌝ }
+    ensures { λ r. ⌜ Decides (now (d .entry)) gap h (now (entries .entry)) (now (patches .entry)) room r (now (sections .exit)) (now (programs .exit)) (now (functions .exit)) (now (maps .exit)) (now (order .exit)) (now (by .exit)) × Relocated (now (d .entry)) gap h (now (entries .entry)) (now (patches .entry)) room r (now (relocations .entry)) (now (relocations .exit)) ⌝ }
+{
+    match tables::parse(
+        d,
+        gap,
+        h,
+        sections,
+        programs,
+        functions,
+        maps,
+        tmp,
+        order,
+    ) {
+        Tables::Refused(r) => Decision::Refused(r),
+        Tables::Numbers(n) => {
+            check_numbers(
+                d,
+                gap,
+                h,
+                entries,
+                patches,
+                room,
+                n,
+                sections,
+                programs,
+                functions,
+                maps,
+                tmp,
+                order,
+                by,
+                relocations,
+            )
+        }
+    }
 }
