@@ -120,7 +120,7 @@ fn parsed_license(d: &[u8], gap: usize, h: Head, s: SectionRecord) -> ParsedLice
     license::parse_license(d, gap, at, n)
 }
 
-fn byte_order(h: Head) -> Endianness
+pub fn byte_order(h: Head) -> Endianness
     ensures { λ r. ⌜ r ≡ byteOrder (h .order) ⌝ }
 {
     if h.order == 1 {

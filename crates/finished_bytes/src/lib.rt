@@ -1,0 +1,124 @@
+// The bytes of an accepted catalogue, patched and rewritten, and zeros behind.
+ghost use mathlib.Core.Path.{_≡_};
+ghost use mathlib.Core.List.{_++_};
+ghost use mathlib.Core.Option.{none};
+ghost use Prim.Native.Nat.{_-_, _<_, _≤_};
+ghost use lib.ListN.{length, take, drop};
+ghost use Rattle.model.specs.Bytes.{each, part};
+ghost use Rattle.model.specs.Lent.{mapOwn, bytesOf, imageOf, filled};
+ghost use Rattle.model.specs.Patching.{patched, finish};
+ghost use Rattle.model.specs.PatchList.{patchesOf};
+ghost use Rattle.model.specs.Refusals.{objectRefusal, patchRefusal};
+ghost use Rattle.insn.specs.Sanitized.{sanitized};
+ghost use Rattle.accepted.specs.Readable.{Readable};
+ghost use Rattle.view.specs.View.{objectIn};
+ghost use Rattle.bytes.specs.Held.{Held, At};
+ghost use Rattle.bytes.specs.Parts.{catalogue};
+ghost use Rattle.decision.specs.Patches.{Ready};
+ghost use Rattle.image.specs.Filled.{clearedFrom};
+ghost use Rattle.patch.specs.Ready.{Ready as PatchReady};
+use bytes::Places;
+use insn::sanitize_code;
+use lists::zero8;
+use model::Head;
+use patch::patch_map_data;
+use tables::Counts;
+
+// The maps' own bytes, which lie from `own` to `end`, as the patch list leaves them.
+fn patch_bytes(
+    d: &[u8],
+    gap: usize,
+    h: Head,
+    entries: &[u64],
+    patches: &[u8],
+    order: &[u32],
+    by: &[u32],
+    rows: &[u64],
+    own: usize,
+    end: usize,
+    out: &mut [u8],
+)
+    requires { ⌜ (0 < length (now entries) → PatchReady (now d) gap h (now order) (now by) (now rows) own) × (patchRefusal (objectIn (now d) gap h) (catalogue (now d) gap h .maps) 1 (patchesOf (now entries) (now patches)) ≡ none) × (own ≤ end) × (end ≤ length (now out)) × (part (now out) own (end - own) ≡ each mapOwn (catalogue (now d) gap h .maps)) ⌝ }
+    ensures { λ r. ⌜ now (out .exit) ≡ take own (now (out .entry)) ++ (each mapOwn (patched (objectIn (now (d .entry)) gap h) (patchesOf (now (entries .entry)) (now (patches .entry))) (catalogue (now (d .entry)) gap h) .maps) ++ drop end (now (out .entry))) ⌝ }
+{
+    if entries.len() > 0 {
+        patch_map_data(
+            d,
+            gap,
+            h,
+            entries,
+            patches,
+            order,
+            by,
+            rows,
+            own,
+            end,
+            out,
+        );
+    }
+}
+
+// The code, which lies from `start` to `end`.
+fn rewrite_code(on: bool, start: usize, end: usize, out: &mut [u8])
+    requires { ⌜ (start ≤ end) × (end ≤ length (now out)) ⌝ }
+    ensures { λ r. ⌜ now (out .exit) ≡ take start (now (out .entry)) ++ (sanitized on (part (now (out .entry)) start (end - start)) ++ drop end (now (out .entry))) ⌝ }
+{
+    sanitize_code(&mut out[start..end], on);
+}
+
+fn clear_bytes_from(t: &mut [u8], n: usize)
+    requires { ⌜ n ≤ length (now t) ⌝ }
+    ensures { λ r. ⌜ now (t .exit) ≡ clearedFrom (now (t .entry)) n ⌝ }
+{
+    zero8(&mut t[n..]);
+}
+
+// `rows` are those of the maps' table as it is lent.
+pub fn fill_bytes(
+    d: &[u8],
+    gap: usize,
+    h: Head,
+    entries: &[u64],
+    patches: &[u8],
+    rewrite: bool,
+    n: Counts,
+    places: Places,
+    sections: &[u32],
+    programs: &[u32],
+    functions: &[u32],
+    maps: &[u32],
+    order: &[u32],
+    by: &[u32],
+    rows: &[u64],
+    out: &mut [u8],
+)
+    requires { ⌜ Readable (now d) gap h × (objectRefusal (objectIn (now d) gap h) ≡ none) × (patchRefusal (objectIn (now d) gap h) (catalogue (now d) gap h .maps) 1 (patchesOf (now entries) (now patches)) ≡ none) × Held (now d) gap h n (now sections) (now programs) (now functions) (now maps) × At (catalogue (now d) gap h) places × Ready (now d) gap h (now entries) (now maps) (n .maps) (now order) (now by) × (now rows ≡ filled 0 (length (now rows)) (imageOf (catalogue (now d) gap h) .maps)) × (length (bytesOf (catalogue (now d) gap h)) ≤ length (now out)) ⌝ }
+    ensures { λ r. ⌜ now (out .exit) ≡ filled 0 (length (now (out .entry))) (bytesOf (finish (objectIn (now (d .entry)) gap h) (patchesOf (now (entries .entry)) (now (patches .entry))) rewrite (catalogue (now (d .entry)) gap h))) ⌝ }
+{
+    bytes::put(
+        d,
+        gap,
+        h,
+        n,
+        sections,
+        programs,
+        functions,
+        maps,
+        out,
+    );
+    patch_bytes(
+        d,
+        gap,
+        h,
+        entries,
+        patches,
+        order,
+        by,
+        rows,
+        places.own,
+        places.end,
+        out,
+    );
+    rewrite_code(rewrite, places.code, places.maps, out);
+    clear_bytes_from(out, places.end);
+}
