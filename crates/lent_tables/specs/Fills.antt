@@ -1,0 +1,111 @@
+-- What a load leaves in the lent tables and bytes, but for the function table.
+use mathlib.Core.Path.{_≡_, refl, sym, ap, _∙_}
+use mathlib.Core.Bool.{Bool}
+use mathlib.Core.List.{List, _++_}
+use mathlib.Core.Option.{none}
+use Prim.Native.Nat.{ℕ, _*_, _^_, _<_, _≤_}
+use lib.ListN.{length, take, drop, replicate}
+use Rattle.model.specs.declared.Head.{Head}
+use Rattle.model.specs.declared.Summary.{Summary}
+use Rattle.model.specs.Catalogue.{Catalogue}
+use Rattle.model.specs.Contents.{catalogueOf, versionOf}
+use Rattle.model.specs.Deposit.{byteOrder}
+use Rattle.model.specs.Lent.{filled, bytesOf, sectionsAt, imageOf, summaryOf}
+use Rattle.model.specs.Object.{Object, Patch}
+use Rattle.model.specs.Patching.{finish}
+use Rattle.model.specs.PatchList.{patchesOf}
+use Rattle.model.specs.Refusals.{objectRefusal, patchRefusal}
+use Rattle.view.specs.View.{objectIn}
+use Rattle.decision.specs.Patches.{Ready}
+use Rattle.bytes.specs.Held.{Held, At}
+use Rattle.bytes.specs.Parts.{catalogue}
+use Rattle.decision.specs.declared.Plan.{Plan}
+use Rattle.decision.specs.Decided.{Goes}
+use Rattle.decision.specs.declared.Room.{Room}
+use Rattle.image.specs.Filled.{clearedFrom, filled-is}
+use Rattle.image.specs.Tables.{long-relocations, count-sections, count-programs, count-functions, count-maps}
+use Rattle.accepted.specs.Readable.{Readable}
+
+-- the exit lists, by the entry lists
+pub record Cleared (s p m l b s₂ p₂ m₂ l₂ b₂ : List ℕ) : Type 0 where
+  pub sections : s₂ ≡ replicate (length s) 0
+  pub programs : p₂ ≡ replicate (length p) 0
+  pub maps : m₂ ≡ replicate (length m) 0
+  pub relocations : l₂ ≡ replicate (length l) 0
+  pub bytes : b₂ ≡ replicate (length b) 0
+
+pub record Filled (o : Object) (ps : List Patch) (on : Bool) (s p m l b s₂ p₂ m₂ l₂ b₂ : List ℕ) : Type 0 where
+  pub sections : s₂ ≡ filled 0 (length s) (imageOf (catalogueOf o) .sections)
+  pub programs : p₂ ≡ filled 0 (length p) (imageOf (catalogueOf o) .programs)
+  pub maps : m₂ ≡ filled 0 (length m) (imageOf (catalogueOf o) .maps)
+  pub relocations : l₂ ≡ filled 0 (length l) (imageOf (catalogueOf o) .relocations)
+  pub bytes : b₂ ≡ filled 0 (length b) (bytesOf (finish o ps on (catalogueOf o)))
+
+-- the relocations' rows are there, and what stands behind them is cleared
+pub relocations-filled : (c : Catalogue) (t l : List ℕ) (n : ℕ) → n ≡ length (c .relocations) → n * 4 ≤ length t → l ≡ imageOf c .relocations ++ drop (n * 4) t
+    → clearedFrom l (n * 4) ≡ filled 0 (length t) (imageOf c .relocations)
+relocations-filled c t l n e h f =
+    ap (λ (x : List ℕ). clearedFrom x (n * 4)) f ∙ filled-is (imageOf c .relocations) t (n * 4) (long-relocations c ∙ ap (λ (k : ℕ). k * 4) (sym e)) h
+
+-- what filling needs: nothing refuses the object, all of it fits, and its relocations' rows are stored
+pub record Fillable (d : List ℕ) (gap : ℕ) (h : Head) (entries lent : List ℕ) (plan : Plan) (s p f m symbols by sections programs maps relocations bytes : List ℕ) : Type 0 where
+  pub readable : Readable d gap h
+  pub ok : objectRefusal (objectIn d gap h) ≡ none
+  pub fine : patchRefusal (objectIn d gap h) (catalogue d gap h .maps) 1 (patchesOf entries lent) ≡ none
+  pub held : Held d gap h (plan .counts) s p f m
+  pub at : At (catalogue d gap h) (plan .places)
+  pub count : plan .relocations ≡ length (catalogue d gap h .relocations)
+  pub ready : Ready d gap h entries m (plan .counts .maps) (take (h .symbols) symbols) by
+  pub known : h .symbols ≤ length symbols
+  pub room-sections : plan .counts .sections * 4 ≤ length sections
+  pub room-programs : plan .counts .programs * 7 ≤ length programs
+  pub room-maps : plan .counts .maps * 27 ≤ length maps
+  pub room-relocations : plan .relocations * 4 ≤ length relocations
+  pub room-bytes : length (bytesOf (catalogue d gap h)) ≤ length bytes
+  pub few : plan .relocations * 4 < 2 ^ 64
+  pub stored : relocations ≡ imageOf (catalogue d gap h) .relocations ++ drop (plan .relocations * 4) relocations
+
+-- the summary by the plan
+unfoldable pub summaryBy : List ℕ → ℕ → Head → Plan → Summary
+summaryBy d gap h plan =
+    record {
+      order = byteOrder (h .order);
+      version = versionOf (objectIn d gap h);
+      license = plan .places .sections;
+      sections = plan .counts .sections;
+      programs = plan .counts .programs;
+      functions = plan .counts .functions;
+      maps = plan .counts .maps;
+      relocations = plan .relocations;
+      bytes = plan .places .end;
+    }
+
+module _ (d : List ℕ) (gap : ℕ) (h : Head) (entries lent : List ℕ) (room : Room) (plan : Plan) (s p f m order by : List ℕ) (r : Readable d gap h) (g : Goes d gap h entries lent room plan s p f m order by) where
+  order-is : catalogue d gap h .order ≡ byteOrder (h .order)
+  unfolding catalogueOf objectIn
+  order-is = refl
+
+  version-is : catalogue d gap h .version ≡ versionOf (objectIn d gap h)
+  unfolding catalogueOf
+  version-is = refl
+
+  pub summary-is : summaryBy d gap h plan ≡ summaryOf (catalogue d gap h)
+  unfolding summaryOf sectionsAt summaryBy
+  summary-is =
+      let t = g .held in
+      let x₄ = sym (count-sections d gap h (plan .counts .sections) s (t .sections-in) (t .sections)) in
+      let x₅ = sym (count-programs d gap h (plan .counts .programs) p (t .programs-in) r (g .ok) (t .programs)) in
+      let x₆ = sym (count-functions d gap h (plan .counts .functions) f (t .functions-in) r (g .ok) (t .functions)) in
+      let x₇ = sym (count-maps d gap h (plan .counts .maps) m (t .maps-in) r (g .ok) (t .maps)) in
+      λ j.
+          record {
+            order = sym order-is j;
+            version = sym version-is j;
+            license = g .at .sections j;
+            sections = x₄ j;
+            programs = x₅ j;
+            functions = x₆ j;
+            maps = x₇ j;
+            relocations = g .count j;
+            bytes = g .at .end j;
+          }

@@ -1,0 +1,2 @@
+-- Everything that is lent but the function table, filled or cleared.
+pub mod Fills
