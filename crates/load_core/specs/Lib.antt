@@ -1,2 +1,3 @@
--- What the contract of `load_core` cites.
+-- The load call without the function table.
 pub mod Done
+pub mod Core
