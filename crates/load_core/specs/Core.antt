@@ -30,7 +30,7 @@ use Rattle.image.specs.Tables.{long-relocations, count-sections, count-programs
 use Rattle.decision.specs.declared.Decision.{Decision}
 use Rattle.decision.specs.declared.Plan.{Plan}
 use Rattle.decision.specs.declared.Room.{Room}
-use Rattle.decision.specs.Decided.{Goes, Relocated}
+use Rattle.decision.specs.Decided.{Goes, Scratch}
 use Rattle.decision.specs.Outcomes.{GoesBack, goes}
 use Rattle.decision.specs.Room.{roomOf, spacious}
 use Rattle.lent_tables.specs.Fills.{Cleared, Filled, Fillable, summaryBy, summary-is}
@@ -76,6 +76,28 @@ pub record Sized (room : Room) (s p m l b : List ℕ) : Type 0 where
 
 pub sized-again : (room : Room) (s p m l b l₂ : List ℕ) → Sized room s p m l b → length l₂ ≡ length l → Sized room s p m l₂ b
 sized-again room s p m l b l₂ z e = record { sections = z .sections; programs = z .programs; maps = z .maps; relocations = z .relocations ∙ sym e; bytes = z .bytes }
+
+-- the arrays that are worked in
+pub scratch-of : (h : Head) (s p f m t order by : List ℕ) (a b c e k i : ℕ) → length s ≡ a → length p ≡ b → length m ≡ c → length t ≡ e → length order ≡ k → length by ≡ i
+    → length f ≡ h .symbols → h .symbols ≤ 65536 → (h .sections ≤ a) × (h .symbols ≤ b) × (h .relocations ≤ b) × (h .sections + h .symbols ≤ c) × (h .sections + h .symbols ≤ e)
+    × (h .relocations ≤ e) × (h .symbols ≤ k) × (h .relocations ≤ k) × (h .sections ≤ i) × (a ≤ 69632) × (b ≤ 69632) × (c ≤ 69632) → Scratch h s p f m t order by
+scratch-of h s p f m t order by a b c e k i la lb lc le lk li lf few w =
+    record {
+      sections = rw la (w .0);
+      programs = rw lb (w .1);
+      untargeted = rw lb (w .2);
+      functions = omega arith;
+      maps = rw lc (w .3);
+      sorting = rw le (w .4);
+      sorting-relocations = rw le (w .5);
+      symbols = rw lk (w .6);
+      relocations = rw lk (w .7);
+      placing = rw li (w .8);
+      most-sections = rw la (w .9);
+      most-programs = rw lb (w .10);
+      most-functions = omega arith;
+      most-maps = rw lc (w .11);
+    }
 
 -- ---- a refusal
 
@@ -178,3 +200,45 @@ module _ (d : List ℕ) (h : Head) (entries lent : List ℕ) (room : Room) (plan
         functions = rows-of;
         risen = λ l. readable .rise;
       })
+
+-- ---- the whole call
+
+module _ (d entries lent : List ℕ) (on : Bool) (n : ℕ) (s p m l b : List ℕ) where
+  abbrev the-room : Room
+  the-room = record { sections = length s; programs = length p; functions = n; maps = length m; relocations = length l; bytes = length b }
+
+  abbrev result : Outcome
+  result = loadOf d entries lent on (lentRoom (length s) (length p) n (length m) (length l) (length b))
+
+  -- 1 to 3
+  refused-is : (q : Refusal) → openedOf d ≡ Opened.Refused q → result ≡ turnedDown (roomOf the-room) q
+  unfolding loadOf loadDeposit
+  refused-is q e = rw (refused-by d q e)
+
+  opened-is : (h : Head) → openedOf d ≡ Opened.Head h → outcome (roomOf the-room) (load (objectIn d 4 h) (patchesOf entries lent) on) ≡ result
+  unfolding loadOf loadDeposit
+  opened-is h e = let a = accepted d h e in rw (a .no-refusal, opened-object d h a)
+
+  -- as the record of the whole call
+  done : (r : Loaded) (s₂ p₂ m₂ l₂ b₂ f rest : List ℕ) (o : Outcome) → Opens d n o r s₂ p₂ m₂ l₂ b₂ f → CoreDone d n o r s₂ p₂ m₂ l₂ b₂ (f ++ rest)
+  done r s₂ p₂ m₂ l₂ b₂ f rest o w =
+      record {
+        answer = w .answer;
+        sections = w .sections;
+        programs = w .programs;
+        maps = w .maps;
+        relocations = w .relocations;
+        bytes = w .bytes;
+        functions = w .functions rest;
+        risen = w .risen;
+      }
+
+  pub back-done : (s₂ p₂ m₂ l₂ b₂ order : List ℕ) → Cleared s p m l b s₂ p₂ m₂ l₂ b₂ → (q : Refusal) (r : Loaded) → openedOf d ≡ Opened.Refused q → r ≡ sentBack q
+      → CoreDone d n result r s₂ p₂ m₂ l₂ b₂ order
+  back-done s₂ p₂ m₂ l₂ b₂ order k q r e f =
+      done r s₂ p₂ m₂ l₂ b₂ [] order result
+      (back-opens d the-room s p m l b s₂ p₂ m₂ l₂ b₂ [] (record { sections = refl; programs = refl; maps = refl; relocations = refl; bytes = refl }) k q result r (refused-is q e) f)
+
+  pub opened-done : (s₂ p₂ m₂ l₂ b₂ f rest : List ℕ) (h : Head) (r : Loaded) → openedOf d ≡ Opened.Head h
+      → Opens d n (outcome (roomOf the-room) (load (objectIn d 4 h) (patchesOf entries lent) on)) r s₂ p₂ m₂ l₂ b₂ f → CoreDone d n result r s₂ p₂ m₂ l₂ b₂ (f ++ rest)
+  opened-done s₂ p₂ m₂ l₂ b₂ f rest h r e w = done r s₂ p₂ m₂ l₂ b₂ f rest result (rw (opened-is h e) at w)

@@ -204,3 +204,253 @@ fn load_opened(
         }
     }
 }
+
+// A record takes sixteen bytes of a deposit or more, so that the arrays have room for each.
+fn load_small(
+    d: &[u8],
+    h: Head,
+    entries: &[u64],
+    patches: &[u8],
+    rewrite: bool,
+    room: Room,
+    sections: &mut [u64],
+    programs: &mut [u64],
+    maps: &mut [u64],
+    relocations: &mut [u64],
+    bytes: &mut [u8],
+    f: &mut [u32],
+) -> Loaded
+    requires { ⌜ (length (now d) ≤ 8192) × Readable (now d) 4 h × (length (now f) ≡ h .symbols) × Sized room (now sections) (now programs) (now maps) (now relocations) (now bytes) × (room .relocations < 2 ^ 64) ⌝ }
+    ensures { λ r. ⌜ Opens (now (d .entry)) (room .functions) (outcome (roomOf room) (load (objectIn (now (d .entry)) 4 h) (patchesOf (now (entries .entry)) (now (patches .entry))) rewrite)) r (now (sections .exit)) (now (programs .exit)) (now (maps .exit)) (now (relocations .exit)) (now (bytes .exit)) (now (f .exit)) ⌝ }
+{
+    let mut s = [0u32; 512];
+    let mut p = [0u32; 512];
+    let mut m = [0u32; 512];
+    let mut tmp = [0u32; 512];
+    let mut symbols = [0u32; 512];
+    let mut by = [0u32; 512];
+    load_opened(
+        d,
+        h,
+        entries,
+        patches,
+        rewrite,
+        room,
+        sections,
+        programs,
+        maps,
+        relocations,
+        bytes,
+        f,
+        &mut s,
+        &mut p,
+        &mut m,
+        &mut tmp,
+        &mut symbols,
+        &mut by,
+    )
+}
+
+fn load_medium(
+    d: &[u8],
+    h: Head,
+    entries: &[u64],
+    patches: &[u8],
+    rewrite: bool,
+    room: Room,
+    sections: &mut [u64],
+    programs: &mut [u64],
+    maps: &mut [u64],
+    relocations: &mut [u64],
+    bytes: &mut [u8],
+    f: &mut [u32],
+) -> Loaded
+    requires { ⌜ (length (now d) ≤ 131072) × Readable (now d) 4 h × (length (now f) ≡ h .symbols) × Sized room (now sections) (now programs) (now maps) (now relocations) (now bytes) × (room .relocations < 2 ^ 64) ⌝ }
+    ensures { λ r. ⌜ Opens (now (d .entry)) (room .functions) (outcome (roomOf room) (load (objectIn (now (d .entry)) 4 h) (patchesOf (now (entries .entry)) (now (patches .entry))) rewrite)) r (now (sections .exit)) (now (programs .exit)) (now (maps .exit)) (now (relocations .exit)) (now (bytes .exit)) (now (f .exit)) ⌝ }
+{
+    let mut s = [0u32; 8192];
+    let mut p = [0u32; 8192];
+    let mut m = [0u32; 8192];
+    let mut tmp = [0u32; 8192];
+    let mut symbols = [0u32; 8192];
+    let mut by = [0u32; 8192];
+    load_opened(
+        d,
+        h,
+        entries,
+        patches,
+        rewrite,
+        room,
+        sections,
+        programs,
+        maps,
+        relocations,
+        bytes,
+        f,
+        &mut s,
+        &mut p,
+        &mut m,
+        &mut tmp,
+        &mut symbols,
+        &mut by,
+    )
+}
+
+// As many as there may be of each.
+fn load_large(
+    d: &[u8],
+    h: Head,
+    entries: &[u64],
+    patches: &[u8],
+    rewrite: bool,
+    room: Room,
+    sections: &mut [u64],
+    programs: &mut [u64],
+    maps: &mut [u64],
+    relocations: &mut [u64],
+    bytes: &mut [u8],
+    f: &mut [u32],
+) -> Loaded
+    requires { ⌜ Readable (now d) 4 h × (length (now f) ≡ h .symbols) × Sized room (now sections) (now programs) (now maps) (now relocations) (now bytes) × (room .relocations < 2 ^ 64) ⌝ }
+    ensures { λ r. ⌜ Opens (now (d .entry)) (room .functions) (outcome (roomOf room) (load (objectIn (now (d .entry)) 4 h) (patchesOf (now (entries .entry)) (now (patches .entry))) rewrite)) r (now (sections .exit)) (now (programs .exit)) (now (maps .exit)) (now (relocations .exit)) (now (bytes .exit)) (now (f .exit)) ⌝ }
+{
+    let mut s = [0u32; 4096];
+    let mut p = [0u32; 65536];
+    let mut m = [0u32; 69632];
+    let mut tmp = [0u32; 69632];
+    let mut symbols = [0u32; 65536];
+    let mut by = [0u32; 4096];
+    load_opened(
+        d,
+        h,
+        entries,
+        patches,
+        rewrite,
+        room,
+        sections,
+        programs,
+        maps,
+        relocations,
+        bytes,
+        f,
+        &mut s,
+        &mut p,
+        &mut m,
+        &mut tmp,
+        &mut symbols,
+        &mut by,
+    )
+}
+
+// The arrays are as large as the deposit asks, so that none is cleared in vain.
+fn load_sized(
+    d: &[u8],
+    h: Head,
+    entries: &[u64],
+    patches: &[u8],
+    rewrite: bool,
+    room: Room,
+    sections: &mut [u64],
+    programs: &mut [u64],
+    maps: &mut [u64],
+    relocations: &mut [u64],
+    bytes: &mut [u8],
+    f: &mut [u32],
+) -> Loaded
+    requires { ⌜ Readable (now d) 4 h × (length (now f) ≡ h .symbols) × Sized room (now sections) (now programs) (now maps) (now relocations) (now bytes) × (room .relocations < 2 ^ 64) ⌝ }
+    ensures { λ r. ⌜ Opens (now (d .entry)) (room .functions) (outcome (roomOf room) (load (objectIn (now (d .entry)) 4 h) (patchesOf (now (entries .entry)) (now (patches .entry))) rewrite)) r (now (sections .exit)) (now (programs .exit)) (now (maps .exit)) (now (relocations .exit)) (now (bytes .exit)) (now (f .exit)) ⌝ }
+{
+    if d.len() <= 8192 {
+        return load_small(
+            d,
+            h,
+            entries,
+            patches,
+            rewrite,
+            room,
+            sections,
+            programs,
+            maps,
+            relocations,
+            bytes,
+            f,
+        );
+    }
+    if d.len() <= 131072 {
+        return load_medium(
+            d,
+            h,
+            entries,
+            patches,
+            rewrite,
+            room,
+            sections,
+            programs,
+            maps,
+            relocations,
+            bytes,
+            f,
+        );
+    }
+    load_large(
+        d,
+        h,
+        entries,
+        patches,
+        rewrite,
+        room,
+        sections,
+        programs,
+        maps,
+        relocations,
+        bytes,
+        f,
+    )
+}
+
+// `room` is how many rows the function table has; `order` gets the record numbers of its rows.
+pub fn load_core(
+    d: &[u8],
+    entries: &[u64],
+    patches: &[u8],
+    rewrite: bool,
+    room: usize,
+    sections: &mut [u64],
+    programs: &mut [u64],
+    maps: &mut [u64],
+    relocations: &mut [u64],
+    bytes: &mut [u8],
+    order: &mut [u32],
+) -> Loaded
+    requires { ⌜ min (length (now d)) 1048576 ≤ 16 * length (now order) ⌝ }
+    ensures { λ r. ⌜ CoreDone (now (d .entry)) room (loadOf (now (d .entry)) (now (entries .entry)) (now (patches .entry)) rewrite (lentRoom (length (now (sections .entry))) (length (now (programs .entry))) room (length (now (maps .entry))) (length (now (relocations .entry))) (length (now (bytes .entry))))) r (now (sections .exit)) (now (programs .exit)) (now (maps .exit)) (now (relocations .exit)) (now (bytes .exit)) (now (order .exit)) ⌝ }
+{
+    let lent = Room {
+        sections: sections.len(),
+        programs: programs.len(),
+        functions: room,
+        maps: maps.len(),
+        relocations: relocations.len(),
+        bytes: bytes.len(),
+    };
+    match deposit::open(d) {
+        Opened::Refused(r) => refuse(r, sections, programs, maps, relocations, bytes),
+        Opened::Head(h) => {
+            let y = size(h.symbols);
+            load_sized(
+                d,
+                h,
+                entries,
+                patches,
+                rewrite,
+                lent,
+                sections,
+                programs,
+                maps,
+                relocations,
+                bytes,
+                &mut order[0..y],
+            )
+        }
+    }
+}

@@ -1,0 +1,129 @@
+-- `load_core::load_core` meets its contract.
+use mathlib.Core.Path.{refl, sym, _∙_}
+use native.Mathlib.Omega.{arith}
+use denote.Ref.{now}
+use Rattle.deposit.specs.Accepted.{accepted}
+use Rattle.accepted.specs.Readable.{readable}
+use Rattle.tables.specs.Parsed.{lent-length}
+use Rattle.load_core.specs.Core.{back-done, opened-done}
+use borrow.Author.Needs.{needs}
+use Rattle.load_core.proofs.load_core.Statement.{statement}
+use Rattle.load_core.proofs.load_core.Tie as tie
+
+open-requires : tie.Need-open-requires
+open-requires c κs = search needs
+
+enum-known-r : tie.Need-enum-known-r
+enum-known-r c = search needs
+
+refuse-requires : tie.Need-refuse-requires
+refuse-requires c κs = search needs
+
+enum-known-h : tie.Need-enum-known-h
+enum-known-h c = search needs
+
+size-requires : tie.Need-size-requires
+size-requires c κs = search needs
+
+sub-load-sized : tie.Need-sub-load-sized
+sub-load-sized c = search needs
+
+part-load-sized-start : tie.Need-part-load-sized-start
+part-load-sized-start c = search needs
+
+part-load-sized-end : tie.Need-part-load-sized-end
+part-load-sized-end c =
+    let z = c .before .before .before .before .before .before .before .before .before .before .before .before .before .before .before .before .before .before .before in
+    let h = c .before .before .before .before .before .before .before .h .given .0 .0 in
+    let r = readable (now (z .args .d)) h (accepted (now (z .args .d)) h (sym (c .before .before .before .before .before .before .before .before .before .open .ensures) ∙ c .before .before .before .before .before .before .before .h .given .1)) in
+    omega (arith, c .before .before .before .before .before .size .ensures .0, r .records-inside, r .few-symbols, z .pre)
+
+load-sized-requires : tie.Need-load-sized-requires
+load-sized-requires c κs =
+    let z = c .before .before .before .before .before .before .before .before .before .before .before .before .before .before .before .before .before .before .before .before in
+    let a = z .args in
+    let h = c .before .before .before .before .before .before .before .before .h .given .0 .0 in
+    let r = readable (now (a .d)) h (accepted (now (a .d)) h (sym (c .before .before .before .before .before .before .before .before .before .before .open .ensures) ∙ c .before .before .before .before .before .before .before .before .h .given .1)) in
+    let y = c .before .before .before .before .before .before .size .ensures .0 in (
+      r,
+      lent-length (now (a .order)) _ _ y (omega (arith, r .records-inside, r .few-symbols, z .pre)),
+      record { sections = refl; programs = refl; maps = refl; relocations = refl; bytes = refl },
+      omega arith,
+    )
+
+same-length : tie.Need-same-length
+same-length c = search needs
+
+same-length-2 : tie.Need-same-length-2
+same-length-2 c = search needs
+
+same-length-3 : tie.Need-same-length-3
+same-length-3 c = search needs
+
+same-length-4 : tie.Need-same-length-4
+same-length-4 c = search needs
+
+same-length-5 : tie.Need-same-length-5
+same-length-5 c = search needs
+
+returns : tie.Need-returns
+returns c =
+    let z = c .before .before .before .before .before .before .before .before .before .before .before .before .before .before .before .before .before .before .before .before .before .before .before .before .before .before .before .before .before in
+    let a = z .args in
+    let q = c .before .before .before .before .before .before .before .before .before .before .before .before .before .before .before .before .before .r .given in
+    let e = c .before .before .before .before .before .before .before .before .before .before .refuse .ensures in
+    back-done (now (a .d)) (now (a .entries)) (now (a .patches)) (a .rewrite) (a .room) (now (a .sections)) (now (a .programs)) (now (a .maps)) (now (a .relocations)) (now (a .bytes)) _ _ _ _ _ (now (a .order)) (e .1) (q .0 .0) _
+    (sym (c .before .before .before .before .before .before .before .before .before .before .before .before .before .before .before .before .before .before .before .open .ensures) ∙ q .1) (e .0)
+
+same-length-6 : tie.Need-same-length-6
+same-length-6 c = search needs
+
+same-length-7 : tie.Need-same-length-7
+same-length-7 c = search needs
+
+same-length-8 : tie.Need-same-length-8
+same-length-8 c = search needs
+
+same-length-9 : tie.Need-same-length-9
+same-length-9 c = search needs
+
+same-length-10 : tie.Need-same-length-10
+same-length-10 c = search needs
+
+same-length-11 : tie.Need-same-length-11
+same-length-11 c = search needs
+
+returns-2 : tie.Need-returns-2
+returns-2 c =
+    let z = c .before .before .before .before .before .before .before .before .before .before .before .before .before .before .before .before .before .before .before .before .before .before .before .before .before .before .before .before .before .before .before .before .before in
+    let a = z .args in
+    let h = c .before .before .before .before .before .before .before .before .before .before .before .before .before .before .before .before .before .before .before .before .before .h .given .0 .0 in
+    opened-done (now (a .d)) (now (a .entries)) (now (a .patches)) (a .rewrite) (a .room) (now (a .sections)) (now (a .programs)) (now (a .maps)) (now (a .relocations)) (now (a .bytes)) _ _ _ _ _ _ _ h _
+    (sym (c .before .before .before .before .before .before .before .before .before .before .before .before .before .before .before .before .before .before .before .before .before .before .before .open .ensures) ∙ c .before .before .before .before .before .before .before .before .before .before .before .before .before .before .before .before .before .before .before .before .before .h .given .1) (c .before .before .before .before .before .before .before .before .before .before .before .before .load-sized .ensures)
+
+pub load-core-spec : {M : Type 1} → statement M
+load-core-spec =
+    tie.close
+    (tie.spec
+    open-requires
+    enum-known-r
+    refuse-requires
+    enum-known-h
+    size-requires
+    sub-load-sized
+    part-load-sized-start
+    part-load-sized-end
+    load-sized-requires
+    same-length
+    same-length-2
+    same-length-3
+    same-length-4
+    same-length-5
+    returns
+    same-length-6
+    same-length-7
+    same-length-8
+    same-length-9
+    same-length-10
+    same-length-11
+    returns-2)
