@@ -51,7 +51,7 @@ use Rattle.model.specs.declared.Function.{Function}
 use Rattle.model.specs.Lent.{zeroRow}
 use Rattle.flat_rows.specs.Flat.{rowNumbers, stored, stored-none, length-stored, stored-next, stored-all}
 use Rattle.flat_rows.proofs.Again.{LentAgain, lends-again, comes-back}
-use Rattle.flat_rows.proofs.Parts.{rest-of}
+use Rattle.function_table.proofs.Parts.{rest-of}
 use Rattle.model.proofs.Function as T
 use Rattle.model.proofs.Function.Laws as T′
 use Rattle.flat_rows.proofs.store_row as store
