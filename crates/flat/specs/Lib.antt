@@ -1,0 +1,2 @@
+-- What the contracts of `flat` cite.
+pub mod Loads

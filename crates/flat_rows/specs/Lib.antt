@@ -1,0 +1,2 @@
+-- What the contracts of `flat_rows` cite.
+pub mod Flat

@@ -1,0 +1,3 @@
+-- What the look-up in the function table of an accepted load finds.
+pub mod Rising
+pub mod Finds

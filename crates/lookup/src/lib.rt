@@ -1,0 +1,1 @@
+// What the look-up in the function table of an accepted load finds. No code stands here.
