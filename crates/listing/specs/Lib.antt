@@ -1,0 +1,2 @@
+-- What the proofs of `listing` cite.
+pub mod Written
