@@ -126,6 +126,13 @@ none-laid at t h =
     let e : at + 0 ≡ at = omega arith in
     record { end = omega arith; text = sym (rw (e, take-nil {A = ℕ} (length t - at)) (take-append-drop at t)); within = h }
 
+-- from the start on, and with room for all of it, it is the front of what is left
+pub whole-text : {x t u : List ℕ} {r : ℕ} → length x ≤ length t → Laid 0 x t r u → take r u ≡ x
+whole-text {x} {t} h l =
+    let z : 0 ≤ length t = omega arith in
+    let f : 0 + length x ≤ length t = omega arith in
+    rw (l .end, l .text, end-whole 0 x t z f) (whole-front 0 x t z f)
+
 -- ---- one copy
 
 pub take-least : (n : ℕ) (l : List ℕ) → take (min n (length l)) l ≡ take n l

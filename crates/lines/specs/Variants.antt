@@ -6,7 +6,7 @@ use Prim.Native.Nat.{ℕ, suc, _+_, _-_, _<_, _≤_}
 use native.Mathlib.Omega.{arith}
 use borrow.Author.Tests.{ltb-true, ltb-false, leb-true}
 use lib.Dec.{ltb, leb}
-use lib.ListN.{getD, replicate, getD-replicate, List·getD-eq-default}
+use lib.ListN.{length, getD, replicate, getD-replicate, List·getD-eq-default}
 use Rattle.lists.specs.Tab.{tab, getD-tab}
 use Rattle.lists.specs.Tests.{both-true}
 use Rattle.model.specs.Bytes.{ascii, part}
@@ -128,3 +128,17 @@ name-found n = go (ltb n 30) refl ∙ sym (named n 0 0)
     go : (b : Bool) → ltb n 30 ≡ b → nameAt (cond b n 0) ≡ getD names n first
     go true e = name-is n (ltb-true _ _ e)
     go false e = let h : 30 ≤ n = ltb-false _ _ e in sym (List·getD-eq-default names first h)
+
+-- no name has more than 15 bytes
+all-short : tab (λ i. leb (length (getD names i first)) 15) 30 ≡ replicate 30 true
+unfolding tab
+all-short = refl
+
+pub name-short : (n a b : ℕ) → length (variantName (programFrom n a b)) ≤ 15
+name-short n a b = rw (named n a b) (go (ltb n 30) refl)
+  where
+    go : (t : Bool) → ltb n 30 ≡ t → length (getD names n first) ≤ 15
+    go true e =
+        let h : n < 30 = ltb-true _ _ e in
+        leb-true _ _ (sym (getD-tab (λ i. leb (length (getD names i first)) 15) 30 n true h) ∙ ap (λ (l : List Bool). getD l n true) all-short ∙ getD-replicate 30 n true true h)
+    go false e = let h : 30 ≤ n = ltb-false _ _ e in rw (List·getD-eq-default names first h) (omega arith)

@@ -1,2 +1,5 @@
 -- What the proofs of `listing` cite.
 pub mod Written
+pub mod Loaded
+pub mod Bound
+pub mod Text

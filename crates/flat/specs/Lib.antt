@@ -1,0 +1,2 @@
+-- The function table as numbers, and the lent room.
+pub mod Numbers
