@@ -1,5 +1,5 @@
 -- How long the text can be.
-use mathlib.Core.Path.{_≡_, refl, sym, ap, _∙_}
+use mathlib.Core.Path.{_≡_}
 use mathlib.Core.Bool.{Bool, true, false, cond}
 use mathlib.Core.List.{List, [], _∷_, _++_}
 use Prim.Native.Nat.{ℕ, zero, suc, _+_, _*_, _/_, _%_, _≤_}
@@ -9,12 +9,12 @@ use lib.Dec.{ltb}
 use lib.ListN.{length, getD, take, drop, length-append}
 use Rattle.model.specs.declared.KernelVersion.{KernelVersion}
 use Rattle.model.specs.declared.Refusal.{Refusal}
-use Rattle.model.specs.Bytes.{ascii, each, records}
-use Rattle.model.specs.Catalogue.{Program, Function, Map, Catalogue}
+use Rattle.model.specs.Bytes.{each, records}
+use Rattle.model.specs.Catalogue.{Function, Map, Catalogue}
 use Rattle.model.specs.Contents.{valueSize}
 use Rattle.model.specs.Lent.{programName, functionName, mapName, bytesOf}
-use Rattle.model.specs.Listing.{digits, decimal, line, versionText, variantName, programLine, functionLine, mapLine, refusalText, catalogueText}
-use Rattle.model.specs.ReadBack.{programFrom, programRead}
+use Rattle.model.specs.Listing.{digits, line, versionText, programLine, functionLine, mapLine, refusalText, catalogueText}
+use Rattle.model.specs.ReadBack.{programRead}
 use Rattle.lines.specs.Variants.{name-short}
 
 digits-most : (k n : ℕ) → length (digits k n) ≤ k

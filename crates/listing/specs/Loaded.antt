@@ -1,8 +1,8 @@
 -- What a load leaves in the lent tables, with the function table as numbers, gives the text of its definition.
-use mathlib.Core.Path.{_≡_, refl, sym, ap, _∙_}
-use mathlib.Core.Bool.{Bool, true, _&&_}
+use mathlib.Core.Path.{_≡_, refl, ap, _∙_}
+use mathlib.Core.Bool.{Bool, _&&_}
 use mathlib.Core.List.{List, [], _∷_, _++_, map, append-assoc}
-use Prim.Native.Nat.{ℕ, zero, suc, _+_, _*_, _<_, _≤_}
+use Prim.Native.Nat.{ℕ, zero, suc, _+_, _*_, _≤_}
 use native.Mathlib.Nat.{not-suc-le-zero, le-of-suc-le-suc, suc-mul}
 use native.Mathlib.Omega.{arith}
 use borrow.Author.Tests.{leb-true}
@@ -13,22 +13,14 @@ use Rattle.model.specs.declared.Summary.{Summary}
 use Rattle.model.specs.declared.Answer.{Answer}
 use Rattle.model.specs.Bytes.{each, records}
 use Rattle.model.specs.Catalogue.{Program, Function, Map}
-use Rattle.model.specs.Lent.{Lent, Room, loadOf, fitsIn, imageOf, summaryOf, placed, programName, functionName, functionCode, mapName, mapOwn, nothing, programRow, functionRow, mapRow, programsAt, functionsAt, codeStart, mapsAt, ownStart}
-use Rattle.model.specs.Listing.{answerText, catalogueText, textOf}
+use Rattle.model.specs.Lent.{Room, loadOf, fitsIn, imageOf, summaryOf, placed, programName, functionName, functionCode, mapName, mapOwn, nothing, programRow, functionRow, mapRow, programsAt, functionsAt, codeStart, mapsAt, ownStart}
+use Rattle.model.specs.Listing.{catalogueText}
 use Rattle.model.specs.ReadBack.{functionRead, readBack}
 use Rattle.lists.specs.Tests.{both-true}
 use Rattle.plan.specs.Placed.{length-joined}
 use Rattle.guarantees.specs.LentBack.{Given, given-is, lent-lengths}
-use Rattle.flat.specs.Numbers.{seven}
-use Rattle.lines.specs.Flat.{rowFrom, functionFrom, topText, flatText, flatAnswer, RowsFit, AnswerFits}
-
--- what is lent, its function table as numbers with anything behind them
-pub record Flat (i : Lent) (programs functions maps bytes : List ℕ) : Type 0 where
-  pub same-programs : programs ≡ i .programs
-  pub rest : List ℕ
-  pub same-functions : functions ≡ each seven (i .functions) ++ rest
-  pub same-maps : maps ≡ i .maps
-  pub same-bytes : bytes ≡ i .bytes
+use Rattle.flat.specs.Numbers.{seven, Flat}
+use Rattle.lines.specs.Flat.{rowFrom, functionFrom, topText, flatText, RowsFit}
 
 functions-read : (b : List ℕ) (n : ℕ) (rows : List FunctionRow) (rest : List ℕ) → n ≤ length rows
     → records (functionFrom b) 7 n (each seven rows ++ rest) ≡ map (functionRead b) (take n rows)

@@ -1,26 +1,23 @@
 -- The text of a load that left its answer and its tables is the listing, and it has room.
 use mathlib.Core.Path.{_≡_, sym, ap, _∙_}
-use mathlib.Core.Bool.{Bool, cond, true, false}
+use mathlib.Core.Bool.{Bool, false}
 use mathlib.Core.List.{List, []}
 use Prim.Native.Nat.{ℕ, _+_, _*_, _<_, _≤_}
 use native.Mathlib.Omega.{arith}
 use borrow.Author.Tests.{lt-ltb, le-ltb}
 use lib.ListN.{length}
 use Rattle.model.specs.declared.Summary.{Summary}
-use Rattle.model.specs.declared.Refusal.{Refusal}
 use Rattle.model.specs.declared.Answer.{Answer}
 use Rattle.model.specs.Bytes.{AllBytes}
 use Rattle.model.specs.Catalogue.{Catalogue}
-use Rattle.model.specs.Deposit.{loadDeposit}
-use Rattle.model.specs.PatchList.{patchesOf}
-use Rattle.model.specs.Patching.{Verdict, accepted}
 use Rattle.model.specs.Lent.{Lent, Room, loadOf, summaryOf, bytesOf}
 use Rattle.model.specs.Listing.{answerText, catalogueText, refusalText, tooLong, textOf, listingOf}
-use Rattle.model.specs.ReadBack.{programRead, readBack}
+use Rattle.model.specs.ReadBack.{readBack}
 use Rattle.guarantees.specs.LentBack.{given-is, lent-read-back}
+use Rattle.flat.specs.Numbers.{Flat}
 use Rattle.lines.specs.Flat.{flatAnswer, AnswerFits}
 use Rattle.listing.specs.Bound.{catalogue-most, refusal-most}
-use Rattle.listing.specs.Loaded.{Flat, within, rows-fit, flat-is}
+use Rattle.listing.specs.Loaded.{within, rows-fit, flat-is}
 
 module _ (d entries patches : List ℕ) (on : Bool) (room : Room) where
   module _ (programs functions maps bytes : List ℕ) (flat : Flat (loadOf d entries patches on room .lent) programs functions maps bytes) where
