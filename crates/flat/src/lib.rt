@@ -1,7 +1,7 @@
-// Stands in for the load call until it is here: every deposit goes back.
+// Stands in for the load call until it is here, with the contract that the listing needs of it: its proof is a hole.
 ghost use mathlib.Core.Path.{_≡_};
-ghost use Rattle.model.specs.declared.Answer.{Answer};
-ghost use Rattle.model.specs.Lent.{tooSmall};
+ghost use Rattle.model.specs.Lent.{loadOf};
+ghost use Rattle.flat.specs.Numbers.{roomOf, Flat};
 use model::Answer;
 use model::Refusal;
 use model::SectionIndex;
@@ -19,7 +19,7 @@ pub fn load_flat(
     relocations: &mut [u64],
     bytes: &mut [u8],
 ) -> Answer
-    ensures { λ r. ⌜ r ≡ Answer.Refused tooSmall ⌝ }
+    ensures { λ r. ⌜ (r ≡ loadOf (now (d .entry)) (now (entries .entry)) (now (patches .entry)) rewrite (roomOf (now (sections .entry)) (now (programs .entry)) (now (functions .entry)) (now (maps .entry)) (now (relocations .entry)) (now (bytes .entry))) .reply) × Flat (loadOf (now (d .entry)) (now (entries .entry)) (now (patches .entry)) rewrite (roomOf (now (sections .entry)) (now (programs .entry)) (now (functions .entry)) (now (maps .entry)) (now (relocations .entry)) (now (bytes .entry))) .lent) (now (programs .exit)) (now (functions .exit)) (now (maps .exit)) (now (bytes .exit)) ⌝ }
 {
     Answer::Refused(Refusal {
         number: 24,

@@ -1,7 +1,11 @@
 // Reads a deposit from standard input and writes its catalogue, or why it goes back.
 ghost use mathlib.Core.Path.{_≡_};
+ghost use Prim.Native.Nat.{_+_, _*_, _≤_};
+ghost use lib.ListN.{length, take};
 ghost use Rattle.io.specs.Counts.{Counts};
-ghost use Rattle.model.specs.Listing.{tooLong};
+ghost use Rattle.model.specs.Listing.{tooLong, listingOf};
+ghost use Rattle.flat.specs.Numbers.{roomOf};
+ghost use Rattle.lines.specs.Laid.{Laid};
 use flat::load_flat;
 use libc::STDIN_FILENO;
 use libc::STDOUT_FILENO;
@@ -33,7 +37,8 @@ fn list(
     bytes: &mut [u8],
     out: &mut [u8],
 ) -> usize
-    ensures { λ r. ⌜ Counts r (now (out .exit)) ⌝ }
+    requires { ⌜ length (now bytes) + 10 * length (now programs) + 11 * length (now functions) + 3 * length (now maps) + 71 ≤ length (now out) ⌝ }
+    ensures { λ r. ⌜ Counts r (now (out .exit)) × Laid 0 (listingOf (roomOf (now (sections .entry)) (now (programs .entry)) (now (functions .entry)) (now (maps .entry)) (now (relocations .entry)) (now (bytes .entry))) (now (d .entry))) (now (out .entry)) r (now (out .exit)) × (take r (now (out .exit)) ≡ listingOf (roomOf (now (sections .entry)) (now (programs .entry)) (now (functions .entry)) (now (maps .entry)) (now (relocations .entry)) (now (bytes .entry))) (now (d .entry))) ⌝ }
 {
     if 65536 < d.len() {
         return put_refusal(out, 0, too_long());

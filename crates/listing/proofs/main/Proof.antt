@@ -1,7 +1,8 @@
 -- `listing::main` is safe and ends: the arrays that it lends have the lengths that they say.
 use mathlib.Core.Path.{sym}
 use Prim.Native.Nat.{ℕ}
-use lib.ListN.{length-replicate}
+use lib.ListN.{replicate, length-replicate}
+use Rattle.listing.specs.Written.{room-for-text}
 use borrow.Author.Needs.{needs}
 use Rattle.listing.proofs.main.Statement.{statement}
 use Rattle.listing.proofs.main.Tie as tie
@@ -40,7 +41,7 @@ slice-aggregate-list-8 : tie.Need-slice-aggregate-list-8
 slice-aggregate-list-8 c = sym (length-replicate {0} {A = ℕ} 1048576 0)
 
 list-requires : tie.Need-list-requires
-list-requires c κs = search needs
+list-requires c κs = room-for-text (replicate 11368 0) (replicate 11368 0) (replicate 43848 0) (replicate 524288 0) (replicate 1048576 0) (length-replicate {0} {A = ℕ} 11368 0) (length-replicate {0} {A = ℕ} 11368 0) (length-replicate {0} {A = ℕ} 43848 0) (length-replicate {0} {A = ℕ} 524288 0) (length-replicate {0} {A = ℕ} 1048576 0)
 
 array-share-prefix-out : tie.Need-array-share-prefix-out
 array-share-prefix-out c = search needs
