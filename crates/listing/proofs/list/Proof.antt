@@ -1,0 +1,122 @@
+-- `listing::list` meets its contract: what the load left is read back as its text, and the buffer has room for it.
+use mathlib.Core.Path.{_≡_, sym, ap, _∙_}
+use mathlib.Core.Bool.{false}
+use mathlib.Core.List.{List, []}
+use Prim.Native.Nat.{ℕ, _+_, _*_, _≤_}
+use native.Mathlib.Omega.{arith}
+use denote.Ref.{now}
+use lib.ListN.{length}
+use Rattle.model.specs.declared.Answer.{Answer}
+use Rattle.model.specs.Bytes.{AllBytes}
+use Rattle.model.specs.Lent.{Room, loadOf}
+use Rattle.model.specs.Listing.{refusalText, listingOf}
+use Rattle.encoding.specs.Code.{all-bytes}
+use Rattle.listing.specs.Numbers.{roomOf, flat-of}
+use Rattle.lines.specs.Laid.{same-text, whole-text}
+use Rattle.listing.specs.Bound.{refusal-most}
+use Rattle.listing.specs.Text.{answer-fits, answer-text, text-most, long-text, short-text}
+use Rattle.listing.specs.Written.{counted}
+use borrow.Author.Needs.{needs}
+use Rattle.listing.proofs.list.Statement.{statement}
+use Rattle.listing.proofs.list.Tie as tie
+
+too-long-requires : tie.Need-too-long-requires
+too-long-requires c κs = search needs
+
+put-refusal-requires : tie.Need-put-refusal-requires
+put-refusal-requires c κs = search needs
+
+same-length : tie.Need-same-length
+same-length c = search needs
+
+returns : tie.Need-returns
+returns c =
+    let p = c .before .before in
+    let t = p .before in
+    let s = t .before .before .before .before .before .before .before .before .before .before .before in
+    let e : refusalText (t .too-long .result) ≡ listingOf _ (now (s .args .d)) = ap refusalText (t .too-long .ensures) ∙ sym (long-text _ (now (s .args .d)) (t .before .before .if1 .taken)) in
+    let l = same-text e (p .put-refusal .ensures) in
+    let h = rw e at (refusal-most (t .too-long .result)) in
+    (counted (p .put-refusal .result) (p .put-refusal .last .0) (l .within), l, whole-text (omega (arith, s .pre)) l)
+
+slice-aggregate-load-flat : tie.Need-slice-aggregate-load-flat
+slice-aggregate-load-flat c = search needs
+
+sub-load-flat : tie.Need-sub-load-flat
+sub-load-flat c = search needs
+
+part-load-flat-start : tie.Need-part-load-flat-start
+part-load-flat-start c = search needs
+
+part-load-flat-end : tie.Need-part-load-flat-end
+part-load-flat-end c = search needs
+
+load-flat-requires : tie.Need-load-flat-requires
+load-flat-requires c κs = search needs
+
+put-answer-requires : tie.Need-put-answer-requires
+put-answer-requires c κs =
+    let f = c .before .before .before .before .before .before .before .before .before .before .before .before .before .before .before .before .before in
+    let a = f .before .before .before .before .before .before .before .before .before .before .before .before .before .before .before .before .before .before .args in
+    (omega arith, answer-fits (now (a .d)) [] [] false (roomOf (now (a .sections)) (now (a .programs)) (now (a .functions)) (now (a .maps)) (now (a .relocations)) (now (a .bytes))) _ _ _ _ (flat-of (f .load-flat .ensures)) (f .load-flat .result) (f .load-flat .ensures .answer))
+
+same-length-2 : tie.Need-same-length-2
+same-length-2 c = search needs
+
+same-length-3 : tie.Need-same-length-3
+same-length-3 c = search needs
+
+same-length-4 : tie.Need-same-length-4
+same-length-4 c = search needs
+
+same-length-5 : tie.Need-same-length-5
+same-length-5 c = search needs
+
+same-length-6 : tie.Need-same-length-6
+same-length-6 c = search needs
+
+same-length-7 : tie.Need-same-length-7
+same-length-7 c = search needs
+
+same-length-8 : tie.Need-same-length-8
+same-length-8 c = search needs
+
+returns-2 : tie.Need-returns-2
+returns-2 c =
+    let p = c .before .before in
+    let f = p .before .before .before .before .before .before .before .before .before .before .before .before .before .before .before .before .before .before in
+    let i = f .before .before .before .before .before .before .before .before .before in
+    let s = i .before .before .before .before .before .before .before .before .before in
+    let a = s .args in
+    let d : List ℕ = now (a .d) in
+    let room : Room = roomOf (now (a .sections)) (now (a .programs)) (now (a .functions)) (now (a .maps)) (now (a .relocations)) (now (a .bytes)) in
+    let r : Answer = f .load-flat .result in
+    let e : r ≡ loadOf d [] [] false room .reply = f .load-flat .ensures .answer in
+    let t = answer-text d [] [] false room _ _ _ _ (flat-of (f .load-flat .ensures)) r e ∙ sym (short-text room d (i .if1 .left)) in
+    let small : AllBytes d = all-bytes d (λ k. i .before .before .before .before .before .before .before .before .shared-slice-known .given k .fits) in
+    let m : length (listingOf room d) ≤ room .bytes + 10 * room .programs + 73 * room .functions + 3 * room .maps + 71 = rw (short-text room d (i .if1 .left)) (text-most d [] [] false room small r e) in
+    let l = same-text t (p .put-answer .ensures) in
+    (counted (p .put-answer .result) (p .put-answer .last .0) (l .within), l, whole-text (omega (arith, s .pre)) l)
+
+pub list-spec : {M : Type 1} → statement M
+list-spec =
+    tie.close
+    (tie.spec
+    too-long-requires
+    put-refusal-requires
+    same-length
+    returns
+    slice-aggregate-load-flat
+    sub-load-flat
+    part-load-flat-start
+    part-load-flat-end
+    load-flat-requires
+    put-answer-requires
+    same-length-2
+    same-length-3
+    same-length-4
+    same-length-5
+    same-length-6
+    same-length-7
+    same-length-8
+    returns-2)

@@ -1,0 +1,6 @@
+-- What the proofs of `listing` cite.
+pub mod Written
+pub mod Numbers
+pub mod Loaded
+pub mod Bound
+pub mod Text

@@ -1,0 +1,84 @@
+// Reads a deposit from standard input and writes its catalogue, or why it goes back.
+ghost use mathlib.Core.Path.{_≡_};
+ghost use Prim.Native.Nat.{_+_, _*_, _≤_};
+ghost use lib.ListN.{length, take};
+ghost use Rattle.io.specs.Counts.{Counts};
+ghost use Rattle.model.specs.Listing.{tooLong, listingOf};
+ghost use Rattle.listing.specs.Numbers.{roomOf};
+ghost use Rattle.lines.specs.Laid.{Laid};
+use flat::load_flat;
+use libc::STDIN_FILENO;
+use libc::STDOUT_FILENO;
+use lines::put_answer;
+use lines::put_refusal;
+use model::Refusal;
+use model::SectionIndex;
+use model::SymbolIndex;
+
+fn too_long() -> Refusal
+    ensures { λ r. ⌜ r ≡ tooLong ⌝ }
+{
+    Refusal {
+        number: 1,
+        section: SectionIndex(0),
+        symbol: SymbolIndex(0),
+        entry: 0,
+    }
+}
+
+// The text for deposit d into out; where it ends.
+fn list(
+    d: &[u8],
+    sections: &mut [u64],
+    programs: &mut [u64],
+    functions: &mut [u64],
+    maps: &mut [u64],
+    relocations: &mut [u64],
+    bytes: &mut [u8],
+    out: &mut [u8],
+) -> usize
+    requires { ⌜ length (now bytes) + 10 * length (now programs) + 11 * length (now functions) + 3 * length (now maps) + 71 ≤ length (now out) ⌝ }
+    ensures { λ r. ⌜ Counts r (now (out .exit)) × Laid 0 (listingOf (roomOf (now (sections .entry)) (now (programs .entry)) (now (functions .entry)) (now (maps .entry)) (now (relocations .entry)) (now (bytes .entry))) (now (d .entry))) (now (out .entry)) r (now (out .exit)) × (take r (now (out .exit)) ≡ listingOf (roomOf (now (sections .entry)) (now (programs .entry)) (now (functions .entry)) (now (maps .entry)) (now (relocations .entry)) (now (bytes .entry))) (now (d .entry))) ⌝ }
+{
+    if 65536 < d.len() {
+        return put_refusal(out, 0, too_long());
+    }
+    let entries = [0u64; 0];
+    let answer = load_flat(
+        d,
+        &entries,
+        &d[0..0],
+        false,
+        sections,
+        programs,
+        functions,
+        maps,
+        relocations,
+        bytes,
+    );
+    put_answer(out, 0, answer, programs, functions, maps, bytes)
+}
+
+// The sizes that docs/CATALOGUE.md states.
+fn main() {
+    let mut d = [0u8; 65537];
+    let n = io::read_full(STDIN_FILENO, &mut d);
+    let mut sections = [0u64; 5416];
+    let mut programs = [0u64; 11368];
+    let mut functions = [0u64; 11368];
+    let mut maps = [0u64; 43848];
+    let mut relocations = [0u64; 16384];
+    let mut bytes = [0u8; 524288];
+    let mut out = [0u8; 1048576];
+    let end = list(
+        &d[..n],
+        &mut sections,
+        &mut programs,
+        &mut functions,
+        &mut maps,
+        &mut relocations,
+        &mut bytes,
+        &mut out,
+    );
+    io::write_all(STDOUT_FILENO, &out[..end]);
+}
