@@ -648,6 +648,9 @@ def texts(c):
     text(12, "text-not-defined", 8, [("f", 0, 8, TEXT, 0)])
     text(13, "text-size-0", 16, whole((0, 0)))
     text(13, "text-size-0-next", 16, whole((0, 8), (8, 0)))
+    text(13, "text-size-0-address", 16, whole((4096, 8), (4104, 0), (4105, 7)), address=4096)
+    text(13, "text-size-0-not-a-multiple", 3, whole((0, 0)))
+    text(13, "text-size-0-before-the-next-12", 24, whole((8, 0), (0, 8)))
     text(14, "text-24-of-16", 16, whole((0, 24)))
     text(14, "text-17-of-16", 16, whole((0, 17)))
     text(14, "text-next-longer", 16, whole((0, 8), (8, 16)))
@@ -830,6 +833,63 @@ def relocations(c):
     d.section(".text", b"", relocations=[(4, 7, 32)])
     d.section(".BTF.ext", b"", relocations=[(4, 7, 32)])
     c.expect(0, "relocations-kept-by-text", d)
+
+
+# ---- orders, sharing
+
+
+def orders(c):
+    """Names that differ late, in length only or not at all, wherever they stand in blocks."""
+    stems = ["a" * n for n in (1, 7, 8, 9, 15, 16, 17, 24)]
+    names = stems + [stem[:-1] + last for stem in stems for last in "b\x01\x7f"] + [stem + "\x01" for stem in stems] + ["b" + "a" * 15, "ab" * 8, "ab" * 9]
+    pick = random.Random(2)
+    for start in (0, 1, 5, 250, 507):
+        pick.shuffle(names)
+        d = Deposit()
+        d.names += b"?" * start
+        for k, name in enumerate(names):
+            d.section("tp/" + name, EXIT, mark=1)
+            d.symbol(name, k + 1)
+        c.expect(0, "names-of-programs-%d" % start, d)
+        d = Deposit()
+        d.names += b"?" * start
+        x = d.section("maps", bytes(range(80)) + bytes(40))
+        for k, name in enumerate(names + names[::3]):
+            d.symbol(name, x, k, 20)
+        c.expect(0, "names-of-maps-%d" % start, d)
+    d = Deposit()
+    listed = [(pick.choice((0, 1, 2**32, TOP, pick.randrange(2**64))) if k % 3 else 8 * pick.randrange(30), k + 1, k) for k in range(90)]
+    for k in range(3):
+        d.program("p%d" % k, "tp", relocations=listed[30 * k : 30 * k + 30])
+    c.expect(0, "relocations-90", d)
+    for k in range(3):
+        d = Deposit()
+        places = [8 * n for n in range(40)]
+        pick.shuffle(places)
+        for section in (".text", "tp", ".text.2"):
+            d.section(section, make_code(pick, 40), mark=1)
+        for n, at in enumerate(places):
+            for x in (3, 1, 2):
+                d.symbol("f%d_%d" % (n % 30, x), x, at, 8 if x != 2 else 8 * pick.randrange((320 - at) // 8 + 1), TEXT)
+        c.expect(0, "functions-120-%d" % k, d, rewrite=k % 2)
+    d = Deposit()
+    shared = struct.pack("<7I", 1, 4, 8, 16, 0, 0, 0) + EXIT * 2 + b"GPL\0"
+    d.data += shared
+    for name, mark, at, length in (
+        ("maps", 0, 0, 28),
+        (".data", 0, 0, 48),
+        (".rodata", 0, 12, 20),
+        ("xdp", 1, 28, 16),
+        (".text", 0, 36, 8),
+        ("license", 0, 44, 4),
+        ("version", 0, 28, 4),
+        (".data2", 0, 47, 1),
+    ):
+        x = d.section(name, mark=mark, size=length)
+        d.sections[-1][6:8] = [at, length]
+        d.symbol("s%d" % x, x, 0, length if name != ".data" else 40)
+    c.expect(0, "data-shared", d)
+    c.expect(0, "data-shared-patched", d, patches=[(b"s2", b"Z" * 40, 1), (b"s3", b"Y" * 20, 1), (b"s8", b"X", 1)], rewrite=1)
 
 
 # ---- patches: 18 to 23
@@ -1094,11 +1154,12 @@ def mixed(c, count):
     section_names = """license version maps maps .text .text .text2 .bss .data .data .rodata .rodata .data.x xdp xdp kprobe kprobe/f tp/a/b
     cgroup/sock uprobe.multi.s sk_skb/stream_verdict x .BTF.ext license2 foo .maps""".split()
     weights = [2, 2] + [4] * 21 + [1, 1, 1]
-    names = "a b c d e f g aa ab ba .data .bss .rodata m n long_name_of_a_symbol".split() + [""]
+    names = """a b c d e f g aa ab ba .data .bss .rodata m n long_name_of_a_symbol long_name_of_a_symbo long_name_of_b_symbol""".split() + [""]
+    names += ["v%d" % k for k in range(12)]
     for number in range(count):
         d = Deposit(pick.randrange(2))
         index = 0
-        for _ in range(pick.randrange(1, 9)):
+        for _ in range(pick.randrange(20, 40) if number % 25 == 0 else pick.randrange(1, 9)):
             section = pick.choices(section_names, weights[: len(section_names)])[0]
             index += 1 if pick.random() < 0.95 else pick.randrange(1, 90)
             make_section(d, pick, section, index, names)
@@ -1126,9 +1187,9 @@ def make_section(d, pick, section, index, names):
     relocations = [(8 * pick.randrange(6), NONE if rare(0.01) else pick.randrange(1, 9), pick.choice((64, 32, 0))) for _ in range(pick.choice((0, 0, 1, 2, 5)))]
     address = pick.choice((0, 0, 0, 8, 4096))
     if section == "license":
-        d.section(section, pick.choice((b"GPL\0", b"MIT\0", b"a\0", b"abc")), index=index, relocations=relocations)
+        d.section(section, pick.choice((b"GPL\0", b"MIT\0", b"a\0", b"abc" if rare(0.1) else b"\xff\0")), index=index, relocations=relocations)
     elif section == "version":
-        d.section(section, pick.choice((b"\1\2\3\4", b"\xfe\xff\xff\xff", b"\xff\xff\xff\xfe", b"1")), index=index, relocations=relocations)
+        d.section(section, pick.choice((b"\1\2\3\4", b"\xfe\xff\xff\xff", b"\xff\xff\xff\xfe", b"1" if rare(0.1) else bytes(4))), index=index, relocations=relocations)
     elif section == "maps":
         n = pick.randrange(1, 4)
         step = pick.choice((20, 24, 28, 28, 36))
@@ -1185,8 +1246,10 @@ def damage(d, pick):
 def make_patch(d, pick):
     if not d.symbols or pick.random() < 0.1:
         return b"unknown", b"data", int(pick.random() < 0.2)
-    sound = [y for y in d.symbols if y[6] == DATA and y[5] < 100]
-    y = pick.choice(sound or d.symbols)
+    kept = {x[0]: bytes(d.names[x[2] : x[2] + x[3]]).startswith((b".data", b".rodata", b".bss")) for x in d.sections}
+    named = [bytes(d.names[y[2] : y[2] + y[3]]) for y in d.symbols]
+    sound = [y for y, name in zip(d.symbols, named) if kept.get(y[1]) and named.count(name) == 1]
+    y = pick.choice(sound if sound and pick.random() < 0.9 else d.symbols)
     name = bytes(d.names[y[2] : y[2] + y[3]])
     size = min(y[5], 64) + (1 if pick.random() < 0.05 else 0)
     return name, bytes(pick.randrange(1, 256) for _ in range(size)), int(pick.random() < 0.7)
@@ -1196,7 +1259,7 @@ def all_cases():
     c = Cases()
     for group in (blocks_and_checks, rules, btf, no_target, licences, versions, kinds, variants, no_symbols, programs, texts, maps, relocations):
         group(c)
-    for group in (patches, rewriting, rooms):
+    for group in (orders, patches, rewriting, rooms):
         group(c)
     mixed(c, 500)
     return c.cases
