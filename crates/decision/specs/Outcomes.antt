@@ -1,19 +1,18 @@
 -- The outcome of a load of an object, by what refuses it and by its catalogue without patches or rewriting.
-use mathlib.Core.Path.{_≡_, refl, sym, ap, _∙_}
+use mathlib.Core.Path.{_≡_, _∙_}
 use mathlib.Core.Bool.{Bool, true, false}
 use mathlib.Core.List.{List}
 use mathlib.Core.Option.{Option, none, some}
 use Prim.Native.Nat.{ℕ}
 use Rattle.model.specs.declared.Answer.{Answer}
 use Rattle.model.specs.declared.Refusal.{Refusal}
-use Rattle.model.specs.Bytes.{orElse}
 use Rattle.model.specs.Catalogue.{Catalogue}
 use Rattle.model.specs.Contents.{catalogueOf}
-use Rattle.model.specs.Lent.{Room, Outcome, Lent, bytesOf, summaryOf, imageOf, fitsIn, filledTo, turnedDown, tooSmall, handed, outcome}
+use Rattle.model.specs.Lent.{Room, Lent, bytesOf, summaryOf, imageOf, fitsIn, filledTo, turnedDown, tooSmall, handed, outcome}
 use Rattle.model.specs.Object.{Object, Patch}
-use Rattle.model.specs.Patching.{finish, verdict, load}
+use Rattle.model.specs.Patching.{finish, load}
 use Rattle.model.specs.Refusals.{objectRefusal, patchRefusal, refusalOf}
-use Rattle.finish.specs.Alike.{Alike, alike-finish, summary-alike, image-alike, fits-alike}
+use Rattle.finish.specs.Alike.{alike-finish, summary-alike, image-alike, fits-alike}
 
 module _ (room : Room) (o : Object) (ps : List Patch) where
   abbrev c : Catalogue

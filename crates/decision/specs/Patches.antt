@@ -1,5 +1,5 @@
 -- The check of a patch list, and what it leaves for the act.
-use mathlib.Core.Path.{_≡_, refl, sym, ap, _∙_}
+use mathlib.Core.Path.{_≡_}
 use mathlib.Core.List.{List, _++_}
 use mathlib.Core.Option.{none}
 use Prim.Native.Nat.{ℕ, _<_, _≤_}
@@ -10,17 +10,14 @@ use Rattle.model.specs.declared.Head.{Head}
 use Rattle.model.specs.Bytes.{records}
 use Rattle.model.specs.Catalogue.{Map}
 use Rattle.model.specs.Object.{Object}
-use Rattle.model.specs.PatchList.{patchFrom, patchesOf}
+use Rattle.model.specs.PatchList.{patchesOf}
 use Rattle.model.specs.Refusals.{objectRefusal, patchRefusal}
 use Rattle.catalogue.specs.Numbers.{mapNumbers}
 use Rattle.accepted.specs.Readable.{Readable}
 use Rattle.map_places.specs.Places.{mapPlaces}
 use Rattle.image.specs.Tables.{all-maps}
-use Rattle.view.specs.declared.Checked.{Checked}
-use Rattle.view.specs.Checked.{checkedOf}
 use Rattle.view.specs.View.{objectIn}
 use Rattle.bearers.specs.Search.{byName}
-use Rattle.bytes.specs.Parts.{catalogue}
 use Rattle.patch_checks.specs.Checks.{Sited}
 
 -- nothing is made ready for an empty list

@@ -1,5 +1,5 @@
 -- Number 24 by the counts of the tables.
-use mathlib.Core.Path.{_≡_, refl, sym, ap, _∙_}
+use mathlib.Core.Path.{_≡_, refl}
 use mathlib.Core.Bool.{Bool, true, false, _&&_}
 use Prim.Native.Nat.{ℕ, _*_, _/_, _<_, _≤_}
 use native.Mathlib.Omega.{arith}

@@ -216,17 +216,7 @@ pub fn decide(
     requires { ⌜ Readable (now d) gap h × Scratch h (now sections) (now programs) (now functions) (now maps) (now tmp) (now order) (now by) × (room .relocations ≡ length (now relocations)) ⌝ }
     ensures { λ r. ⌜ Decides (now (d .entry)) gap h (now (entries .entry)) (now (patches .entry)) room r (now (sections .exit)) (now (programs .exit)) (now (functions .exit)) (now (maps .exit)) (now (order .exit)) (now (by .exit)) × Relocated (now (d .entry)) gap h (now (entries .entry)) (now (patches .entry)) room r (now (relocations .entry)) (now (relocations .exit)) ⌝ }
 {
-    match tables::parse(
-        d,
-        gap,
-        h,
-        sections,
-        programs,
-        functions,
-        maps,
-        tmp,
-        order,
-    ) {
+    match tables::parse(d, gap, h, sections, programs, functions, maps, tmp, order) {
         Tables::Refused(r) => Decision::Refused(r),
         Tables::Numbers(n) => {
             check_numbers(

@@ -8,14 +8,13 @@ use lib.Dec.{leb}
 use lib.ListN.{length, length-append, length-map}
 use lib.Seq.{sets, length-sets}
 use Rattle.model.specs.declared.BpfInsn.{BpfInsn}
-use Rattle.model.specs.declared.Summary.{Summary}
 use Rattle.model.specs.Bytes.{each}
 use Rattle.model.specs.Object.{Symbol, Object, Patch}
 use Rattle.model.specs.Instruction.{eight, rewrite}
 use Rattle.model.specs.Catalogue.{Function, Map, Catalogue}
 use Rattle.model.specs.Symbols.{liesIn}
 use Rattle.model.specs.Refusals.{bearers}
-use Rattle.model.specs.Lent.{placed, joined, nothing, sectionRow, programRow, relocationRow, sectionName, programName, functionName, functionCode, functionRow, mapName, mapOwn, mapRow, bytesOf, sectionsAt, programsAt, functionsAt, codeStart, mapsAt, ownStart, summaryOf, imageOf, Room, fitsIn, Lent}
+use Rattle.model.specs.Lent.{placed, joined, nothing, sectionRow, programRow, relocationRow, sectionName, programName, functionName, functionCode, functionRow, mapName, mapOwn, mapRow, bytesOf, sectionsAt, programsAt, functionsAt, codeStart, mapsAt, ownStart, summaryOf, imageOf, Room, fitsIn}
 use Rattle.insn.specs.Sanitized.{length-each-eight}
 use Rattle.model.specs.Patching.{patchMap, withMaps, patchMaps, patched, rewriteFunction, rewritten, finish}
 

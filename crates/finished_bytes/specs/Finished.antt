@@ -28,8 +28,8 @@ use Rattle.model.specs.Object.{Object, Patch}
 use Rattle.model.specs.Patching.{patched, rewriteFunction, rewritten, finish, withMaps}
 use Rattle.insn.specs.Sanitized.{sanitized, sanitized-off}
 use Rattle.code.specs.Rewritten.{AllEncoded, rewritten-code, all-encoded}
-use Rattle.finish.specs.Alike.{Alike, alike-finish, bytes-long}
-use Rattle.patch.specs.Patched.{patchedMaps, patched-is}
+use Rattle.finish.specs.Alike.{alike-finish, bytes-long}
+use Rattle.patch.specs.Patched.{patched-is}
 
 -- ---- a part of a list replaced
 

@@ -42,19 +42,7 @@ fn patch_bytes(
     ensures { λ r. ⌜ now (out .exit) ≡ take own (now (out .entry)) ++ (each mapOwn (patched (objectIn (now (d .entry)) gap h) (patchesOf (now (entries .entry)) (now (patches .entry))) (catalogue (now (d .entry)) gap h) .maps) ++ drop end (now (out .entry))) ⌝ }
 {
     if entries.len() > 0 {
-        patch_map_data(
-            d,
-            gap,
-            h,
-            entries,
-            patches,
-            order,
-            by,
-            rows,
-            own,
-            end,
-            out,
-        );
+        patch_map_data(d, gap, h, entries, patches, order, by, rows, own, end, out);
     }
 }
 
@@ -95,17 +83,7 @@ pub fn fill_bytes(
     requires { ⌜ Readable (now d) gap h × (objectRefusal (objectIn (now d) gap h) ≡ none) × (patchRefusal (objectIn (now d) gap h) (catalogue (now d) gap h .maps) 1 (patchesOf (now entries) (now patches)) ≡ none) × Held (now d) gap h n (now sections) (now programs) (now functions) (now maps) × At (catalogue (now d) gap h) places × Ready (now d) gap h (now entries) (now maps) (n .maps) (now order) (now by) × (now rows ≡ filled 0 (length (now rows)) (imageOf (catalogue (now d) gap h) .maps)) × (length (bytesOf (catalogue (now d) gap h)) ≤ length (now out)) ⌝ }
     ensures { λ r. ⌜ now (out .exit) ≡ filled 0 (length (now (out .entry))) (bytesOf (finish (objectIn (now (d .entry)) gap h) (patchesOf (now (entries .entry)) (now (patches .entry))) rewrite (catalogue (now (d .entry)) gap h))) ⌝ }
 {
-    bytes::put(
-        d,
-        gap,
-        h,
-        n,
-        sections,
-        programs,
-        functions,
-        maps,
-        out,
-    );
+    bytes::put(d, gap, h, n, sections, programs, functions, maps, out);
     patch_bytes(
         d,
         gap,

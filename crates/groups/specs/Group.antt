@@ -17,7 +17,7 @@ use Rattle.plan.specs.Numbers.{upTo}
 use Rattle.plan.specs.ByNumber.{rawSection}
 use Rattle.plan.specs.SectionsPrograms.{All}
 use Rattle.plan.specs.Shared.{Climbs}
-use Rattle.plan.specs.SortedGroups.{bySection, byPlace, group-is}
+use Rattle.plan.specs.SortedGroups.{bySection, group-is}
 use Rattle.view.specs.View.{symbolFrom, symbolIn}
 use Rattle.keys.specs.declared.By.{By}
 use Rattle.keys.specs.Keys.{keyOf}
@@ -39,9 +39,6 @@ module _ (d : List ℕ) (gap : ℕ) (h : Head) where
   -- all numbers, counted up and sorted
   pub section-order : (l m : List ℕ) → l ≡ upTo (h .symbols) → m ≡ sorted (byKey (keyOf By.SymbolSection d gap h)) l → m ≡ sorted (bySection (symbolIn d gap h)) (upTo (h .symbols))
   section-order l m p q = q ∙ (λ k. sorted (byKey (section-keys k)) (p k))
-
-  pub place-order : (l m : List ℕ) → l ≡ upTo (h .symbols) → m ≡ sorted (byKey (keyOf By.SymbolAddress d gap h)) l → m ≡ sorted (byPlace (symbolIn d gap h)) (upTo (h .symbols))
-  place-order l m p q = q ∙ (λ k. sorted (byKey (place-keys k)) (p k))
 
 -- ---- numbers that climb
 

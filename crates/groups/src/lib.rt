@@ -1,9 +1,9 @@
-// All symbols sorted by section, and by section and address; and the group of one section's symbols in them.
+// All symbols sorted by section, and the group of one section's symbols in them.
 ghost use mathlib.Core.Path.{_≡_};
 ghost use Prim.Native.Nat.{_<_, _≤_};
 ghost use lib.ListN.{length};
 ghost use Rattle.plan.specs.Numbers.{upTo};
-ghost use Rattle.plan.specs.SortedGroups.{bySection, byPlace};
+ghost use Rattle.plan.specs.SortedGroups.{bySection};
 ghost use Rattle.orders.specs.Sort.{sorted};
 ghost use Rattle.view.specs.View.{symbolIn};
 ghost use Rattle.groups.specs.Cut.{Start, End};
@@ -16,14 +16,6 @@ pub fn by_section(d: &[u8], gap: usize, h: Head, order: &mut [u32], tmp: &mut [u
 {
     sort::count_up(order);
     sort::sort(d, gap, h, By::SymbolSection, order, tmp);
-}
-
-pub fn by_place(d: &[u8], gap: usize, h: Head, order: &mut [u32], tmp: &mut [u32])
-    requires { ⌜ (gap ≤ 4) × (h .symbols ≤ 65536) × (length (now order) ≡ h .symbols) × (length (now tmp) ≡ h .symbols) ⌝ }
-    ensures { λ r. ⌜ now (order .exit) ≡ sorted (byPlace (symbolIn (now (d .entry)) gap h)) (upTo (h .symbols)) ⌝ }
-{
-    sort::count_up(order);
-    sort::sort(d, gap, h, By::SymbolAddress, order, tmp);
 }
 
 // Past the symbols of sections below k.

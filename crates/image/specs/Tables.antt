@@ -95,11 +95,6 @@ module _ (d : List ℕ) (gap : ℕ) (h : Head) where
         pub count-functions : length (c .functions) ≡ n
         count-functions = counted (functionAt d gap h) (c .functions) (functionNumbers d gap h) e (functions-by d gap h (rises d gap h r))
 
-        pub rows-of-functions : placed functionName functionCode functionRow (functionsAt c) (codeStart c) (map (functionAt d gap h) (take n order)) ≡ imageOf c .functions
-        unfolding imageOf
-        rows-of-functions =
-            ap (placed functionName functionCode functionRow (functionsAt c) (codeStart c)) (ap (map (functionAt d gap h)) e ∙ sym (functions-by d gap h (rises d gap h r)))
-
       module _ (e : take n order ≡ mapNumbers d gap h) where
         pub maps-are : map (mapAt d gap h) (take n order) ≡ c .maps
         maps-are = ap (map (mapAt d gap h)) e ∙ sym (maps-by d gap h (rises d gap h r))

@@ -98,14 +98,14 @@ module _ (d : List ℕ) (gap : ℕ) (h : Head) (entries lent : List ℕ) (room :
       let x₆ = sym (count-functions d gap h (plan .counts .functions) f (t .functions-in) r (g .ok) (t .functions)) in
       let x₇ = sym (count-maps d gap h (plan .counts .maps) m (t .maps-in) r (g .ok) (t .maps)) in
       λ j.
-          record {
-            order = sym order-is j;
-            version = sym version-is j;
-            license = g .at .sections j;
-            sections = x₄ j;
-            programs = x₅ j;
-            functions = x₆ j;
-            maps = x₇ j;
-            relocations = g .count j;
-            bytes = g .at .end j;
-          }
+      record {
+        order = sym order-is j;
+        version = sym version-is j;
+        license = g .at .sections j;
+        sections = x₄ j;
+        programs = x₅ j;
+        functions = x₆ j;
+        maps = x₇ j;
+        relocations = g .count j;
+        bytes = g .at .end j;
+      }

@@ -2,7 +2,6 @@
 use mathlib.Core.Path.{_≡_, refl, sym, ap, _∙_}
 use mathlib.Core.Bool.{Bool}
 use mathlib.Core.List.{List, [], _++_, map}
-use mathlib.Core.Option.{none, some}
 use Prim.Native.Nat.{ℕ, _+_, _*_, _^_, _<_, _≤_}
 use native.Mathlib.Omega.{arith}
 use lib.ListN.{length, take, drop, length-append}
@@ -10,28 +9,27 @@ use lib.Seq.{take-append-le, drop-at}
 use Rattle.model.specs.declared.Head.{Head}
 use Rattle.model.specs.declared.Answer.{Answer}
 use Rattle.model.specs.declared.Refusal.{Refusal}
-use Rattle.model.specs.Bytes.{each, maybe}
+use Rattle.model.specs.Bytes.{each}
 use Rattle.model.specs.Catalogue.{Catalogue}
-use Rattle.model.specs.Deposit.{depositRefusal, loadDeposit, objectOf}
-use Rattle.model.specs.Lent.{placed, filled, zeroRow, functionName, functionCode, functionRow, bytesOf, imageOf, functionsAt, codeStart, summaryOf, Outcome, Lent, zeroed, filledTo, turnedDown, outcome, loadOf, Room as LentRoom}
+use Rattle.model.specs.Deposit.{loadDeposit}
+use Rattle.model.specs.Lent.{placed, filled, zeroRow, functionName, functionCode, functionRow, imageOf, functionsAt, codeStart, Outcome, zeroed, filledTo, turnedDown, outcome, loadOf}
 use Rattle.model.specs.Object.{Object, Patch}
 use Rattle.model.specs.PatchList.{patchesOf}
-use Rattle.model.specs.Patching.{load, finish}
+use Rattle.model.specs.Patching.{load}
 use Rattle.view.specs.Opened.{opened-object}
 use Rattle.view.specs.View.{objectIn}
 use Rattle.deposit.specs.declared.Opened.{Opened}
 use Rattle.deposit.specs.Accepted.{Accepted, accepted, refused-by}
 use Rattle.deposit.specs.Open.{openedOf}
-use Rattle.catalogue.specs.Numbers.{functionAt, functionNumbers, functions-by}
+use Rattle.catalogue.specs.Numbers.{functionAt, functions-by}
 use Rattle.accepted.specs.Readable.{Readable, readable}
 use Rattle.bytes.specs.Held.{inside}
 use Rattle.bytes.specs.Parts.{catalogue, rises}
 use Rattle.image.specs.Tables.{long-relocations, count-sections, count-programs, count-functions, count-maps}
-use Rattle.decision.specs.declared.Decision.{Decision}
 use Rattle.decision.specs.declared.Plan.{Plan}
 use Rattle.decision.specs.declared.Room.{Room}
 use Rattle.decision.specs.Decided.{Goes, Scratch}
-use Rattle.decision.specs.Outcomes.{GoesBack, goes}
+use Rattle.decision.specs.Outcomes.{goes}
 use Rattle.decision.specs.Room.{roomOf, spacious}
 use Rattle.lent_tables.specs.Fills.{Cleared, Filled, Fillable, summaryBy, summary-is}
 use Rattle.function_table.specs.declared.Rows.{Rows}

@@ -70,8 +70,8 @@ returns c =
       programs = c .before .before .before .before .before .before .before .before .before .before .before .before .before .before .before .before .before .fill-programs .ensures;
       maps = c .before .before .before .before .before .before .before .before .before .before .before .before .before .fill-maps .ensures;
       relocations =
-        c .before .before .before .before .before .before .before .before .clear-from .ensures
-        ∙ relocations-filled (catalogue (now (a .d)) (a .gap) (a .h)) (now (a .relocations)) (now (a .relocations)) (a .plan .relocations) (g .count) (g .room-relocations) (g .stored);
+          c .before .before .before .before .before .before .before .before .clear-from .ensures
+          ∙ relocations-filled (catalogue (now (a .d)) (a .gap) (a .h)) (now (a .relocations)) (now (a .relocations)) (a .plan .relocations) (g .count) (g .room-relocations) (g .stored);
       bytes = c .before .before .fill-bytes .ensures;
     }
 

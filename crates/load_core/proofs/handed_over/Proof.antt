@@ -18,12 +18,12 @@ returns c = λ i.
     record {
       answer = Answer.Accepted (c .before .before .summary .ensures i);
       rows =
-        record {
-          head = c .before .before .before .before .args .h;
-          count = c .before .before .before .before .args .plan .counts .functions;
-          name = c .before .wide .ensures i;
-          code = c .wide2 .ensures i;
-        };
+          record {
+            head = c .before .before .before .before .args .h;
+            count = c .before .before .before .before .args .plan .counts .functions;
+            name = c .before .wide .ensures i;
+            code = c .wide2 .ensures i;
+          };
     }
 
 pub handed-over-spec : {M : Type 1} → statement M

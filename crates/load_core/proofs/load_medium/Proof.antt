@@ -32,8 +32,7 @@ load-opened-requires c κs =
     let a = z .args in
     let r = z .pre .1 in
     let i = r .records-inside in
-    let l = z .pre .0 in
-    (
+    let l = z .pre .0 in (
       r,
       scratch-of (a .h) _ _ (now (a .f)) _ _ _ _ 8192 8192 8192 8192 8192 8192 (length-replicate {A = ℕ} 8192 0) (length-replicate {A = ℕ} 8192 0) (length-replicate {A = ℕ} 8192 0) (length-replicate {A = ℕ} 8192 0) (length-replicate {A = ℕ} 8192 0) (length-replicate {A = ℕ} 8192 0) (z .pre .2) (r .few-symbols)
           (omega (arith, i, l, r .few-sections, r .few-symbols, r .few-relocations), omega (arith, i, l, r .few-sections, r .few-symbols, r .few-relocations), omega (arith, i, l, r .few-sections, r .few-symbols, r .few-relocations), omega (arith, i, l, r .few-sections, r .few-symbols, r .few-relocations), omega (arith, i, l, r .few-sections, r .few-symbols, r .few-relocations), omega (arith, i, l, r .few-sections, r .few-symbols, r .few-relocations), omega (arith, i, l, r .few-sections, r .few-symbols, r .few-relocations), omega (arith, i, l, r .few-sections, r .few-symbols, r .few-relocations), omega (arith, i, l, r .few-sections, r .few-symbols, r .few-relocations), omega arith, omega arith, omega arith),
