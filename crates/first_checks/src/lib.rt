@@ -23,11 +23,11 @@ use model::KernelVersion;
 use model::ParsedLicense;
 use model::ParsedVersion;
 use model::SectionRecord;
+use records::data_at;
+use records::names_at;
 use stream::size;
 use stream::u32_at;
 use view::Checked;
-use view::bytes_at;
-use view::names_at;
 
 // A relocation's symbol, where its target is none.
 const NO_SYMBOL: u32 = 0xFFFF_FFFF;
@@ -115,7 +115,7 @@ fn parsed_license(d: &[u8], gap: usize, h: Head, s: SectionRecord) -> ParsedLice
     requires { ⌜ gap ≤ 4 ⌝ }
     ensures { λ r. ⌜ r ≡ parseLicense (sectionFrom (now (d .entry)) gap h s .bytes) ⌝ }
 {
-    let at = bytes_at(h) + size(s.bytes.at);
+    let at = data_at(h) + size(s.bytes.at);
     let n = size(s.bytes.length);
     license::parse_license(d, gap, at, n)
 }
@@ -134,7 +134,7 @@ fn parsed_version(d: &[u8], gap: usize, h: Head, s: SectionRecord) -> ParsedVers
     requires { ⌜ gap ≤ 4 ⌝ }
     ensures { λ r. ⌜ r ≡ parseVersion (byteOrder (h .order)) (sectionFrom (now (d .entry)) gap h s .bytes) ⌝ }
 {
-    let at = bytes_at(h) + size(s.bytes.at);
+    let at = data_at(h) + size(s.bytes.at);
     let n = size(s.bytes.length);
     license::parse_version(d, gap, at, n, byte_order(h))
 }
@@ -201,7 +201,7 @@ pub fn license_of(d: &[u8], gap: usize, h: Head) -> LicenseAt
         return LicenseAt::Gpl;
     };
     let s = records::section(d, gap, i);
-    let at = bytes_at(h) + size(s.bytes.at);
+    let at = data_at(h) + size(s.bytes.at);
     let n = size(s.bytes.length);
     if n == 0 {
         return LicenseAt::Bytes(at, 0);

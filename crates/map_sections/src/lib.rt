@@ -29,7 +29,7 @@ fn map_fault(d: &[u8], gap: usize, h: Head, s: SectionRecord, y: SymbolRecord) -
     if length - y.address < y.size {
         return 10;
     }
-    let at = view::bytes_at(h) + size(s.bytes.at) + y.address as usize;
+    let at = records::data_at(h) + size(s.bytes.at) + y.address as usize;
     let def = maps::parse_map_def(d, gap, at, y.size as usize);
     if maps::invalid_map_definition(y.size, def) {
         16
@@ -64,7 +64,7 @@ pub fn map_symbols(
 }
 
 // What refuses a `maps` section; the group is that of its symbols.
-pub fn maps_refusal(
+pub fn parse_maps_section(
     d: &[u8],
     gap: usize,
     h: Head,

@@ -19,7 +19,7 @@ use stream::wide64;
 use view::Checked;
 
 // What refuses a program's symbol: 10 or 15, else 0. No sum is made, so none can wrap.
-fn program_fault(s: SectionRecord, y: SymbolRecord) -> u32
+fn parse_program(s: SectionRecord, y: SymbolRecord) -> u32
     ensures { λ r. ⌜ r ≡ programFault s y ⌝ }
 {
     let length = wide64(s.bytes.length);
@@ -56,7 +56,7 @@ pub fn program_symbols(
     while i < hi {
         let y = records::symbol(d, gap, h, order[i]);
         if view::is_program(y) {
-            let fault = program_fault(s, y);
+            let fault = parse_program(s, y);
             if fault != 0 {
                 return view::of_symbol(fault, s, y);
             }
@@ -79,7 +79,7 @@ pub fn program_refusal(
     requires { ⌜ (gap ≤ 4) × (hi ≤ length (now order)) × (slice lo hi (now order) ≡ membersIn (now d) gap h s) ⌝ }
     ensures { λ r. ⌜ r ≡ checkedOf (programRefusal (objectIn (now (d .entry)) gap h) (sectionFrom (now (d .entry)) gap h s)) ⌝ }
 {
-    let at = view::names_at(h) + size(s.name.at);
+    let at = records::names_at(h) + size(s.name.at);
     let n = size(s.name.length);
     let parsed = program_section::from_str(d, gap, at, n);
     match parsed {

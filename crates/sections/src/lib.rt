@@ -66,7 +66,7 @@ fn answer(c: Checked, n: usize) -> ParsedText
     }
 }
 
-fn parse_program_section(
+fn parse_programs(
     d: &[u8],
     gap: usize,
     h: Head,
@@ -146,11 +146,12 @@ fn parse_kind(
     ensures { λ r. ⌜ Answers (kindRefusal (objectIn (now (d .entry)) gap h) (sectionFrom (now (d .entry)) gap h s)) (functionsBy (now (d .entry)) gap h s) (now (functions .entry)) w r (now (functions .exit)) ⌝ }
 {
     match kind {
-        EbpfSectionKind::Program => {
-            parse_program_section(d, gap, h, s, order, lo, hi, functions, w)
-        }
+        EbpfSectionKind::Program => { parse_programs(d, gap, h, s, order, lo, hi, functions, w) }
         EbpfSectionKind::Maps => {
-            answer(map_sections::maps_refusal(d, gap, h, s, order, lo, hi), w)
+            answer(
+                map_sections::parse_maps_section(d, gap, h, s, order, lo, hi),
+                w,
+            )
         }
         EbpfSectionKind::Text => {
             parse_text_section(d, gap, h, s, order, lo, hi, group, tmp, functions, w)

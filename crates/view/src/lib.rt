@@ -1,9 +1,8 @@
 // What a deposit's records stand for: the kind of a section, and which symbols are programs or defined text.
 ghost use mathlib.Core.Path.{_≡_};
-ghost use Prim.Native.Nat.{_^_, _<_, _≤_};
+ghost use Prim.Native.Nat.{_≤_};
 ghost use Rattle.model.specs.Refusals.{noSymbol};
 ghost use Rattle.model.specs.SectionKind.{kindOf};
-ghost use Rattle.records.specs.Records.{namesAt, dataAt};
 ghost use Rattle.view.specs.View.{sectionFrom, namedText, definedRecord};
 use model::EbpfSectionKind;
 use model::Head;
@@ -11,6 +10,7 @@ use model::Refusal;
 use model::SectionRecord;
 use model::SymbolIndex;
 use model::SymbolRecord;
+use records::names_at;
 use stream::size;
 
 // What a check of a part of the object finds: nothing, or why the deposit goes back.
@@ -44,20 +44,6 @@ pub fn of_symbol(number: u32, s: SectionRecord, y: SymbolRecord) -> Checked
         symbol,
         entry: 0,
     })
-}
-
-// Where the names begin.
-pub fn names_at(h: Head) -> usize
-    ensures { λ r. ⌜ (r ≡ namesAt h) × (r < 2 ^ 42) ⌝ }
-{
-    32 + 48 * size(h.sections) + 40 * size(h.symbols) + 16 * size(h.relocations)
-}
-
-// Where the data begin.
-pub fn bytes_at(h: Head) -> usize
-    ensures { λ r. ⌜ (r ≡ dataAt h) × (r < 2 ^ 43) ⌝ }
-{
-    names_at(h) + size(h.names)
 }
 
 pub fn kind_of(d: &[u8], gap: usize, h: Head, s: SectionRecord) -> EbpfSectionKind

@@ -33,8 +33,8 @@ returns c =
 section-requires : tie.Need-section-requires
 section-requires c κs = search needs
 
-bytes-at-requires : tie.Need-bytes-at-requires
-bytes-at-requires c κs = search needs
+data-at-requires : tie.Need-data-at-requires
+data-at-requires c κs = search needs
 
 size-requires : tie.Need-size-requires
 size-requires c κs = search needs
@@ -54,7 +54,7 @@ returns-2 c =
     let a = n .before .before .before .args in
     let o = found-at (numberNamed (now (a .d)) (a .gap) (a .h) (ascii "license")) (i .i .given .0 .0) (sym (n .first-named .ensures) ∙ i .i .given .1) in
     let z : s .section .result .bytes .length - 1 ≡ 0 = omega arith in
-    rw (o, ← s .section .ensures, z, c .before .before .before .bytes-at .ensures .0, c .before .before .size .ensures .0)
+    rw (o, ← s .section .ensures, z, c .before .before .before .data-at .ensures .0, c .before .before .size .ensures .0)
 
 sub-t12 : tie.Need-sub-t12
 sub-t12 c = search needs
@@ -68,7 +68,7 @@ returns-3 c =
     let a = n .before .before .before .args in
     let o = found-at (numberNamed (now (a .d)) (a .gap) (a .h) (ascii "license")) (i .i .given .0 .0) (sym (n .first-named .ensures) ∙ i .i .given .1) in
     let z : s .section .result .bytes .length - 1 ≡ c .before .size2 .result - 1 = omega arith in
-    rw (o, ← s .section .ensures, z, c .before .before .before .bytes-at .ensures .0, c .before .before .size .ensures .0)
+    rw (o, ← s .section .ensures, z, c .before .before .before .data-at .ensures .0, c .before .before .size .ensures .0)
 
 pub license-of-spec : {M : Type 1} → statement M
 license-of-spec =
@@ -80,7 +80,7 @@ license-of-spec =
     enum-told
     returns
     section-requires
-    bytes-at-requires
+    data-at-requires
     size-requires
     add-at
     size-requires-2

@@ -4,8 +4,8 @@ use borrow.Author.Needs.{needs}
 use Rattle.first_checks.proofs.parsed_license.Statement.{statement}
 use Rattle.first_checks.proofs.parsed_license.Tie as tie
 
-bytes-at-requires : tie.Need-bytes-at-requires
-bytes-at-requires c κs = search needs
+data-at-requires : tie.Need-data-at-requires
+data-at-requires c κs = search needs
 
 size-requires : tie.Need-size-requires
 size-requires c κs = search needs
@@ -27,7 +27,7 @@ pub parsed-license-spec : {M : Type 1} → statement M
 parsed-license-spec =
     tie.close
     (tie.spec
-    bytes-at-requires
+    data-at-requires
     size-requires
     add-at
     size-requires-2

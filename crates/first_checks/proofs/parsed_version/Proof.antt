@@ -4,8 +4,8 @@ use borrow.Author.Needs.{needs}
 use Rattle.first_checks.proofs.parsed_version.Statement.{statement}
 use Rattle.first_checks.proofs.parsed_version.Tie as tie
 
-bytes-at-requires : tie.Need-bytes-at-requires
-bytes-at-requires c κs = search needs
+data-at-requires : tie.Need-data-at-requires
+data-at-requires c κs = search needs
 
 size-requires : tie.Need-size-requires
 size-requires c κs = search needs
@@ -30,7 +30,7 @@ pub parsed-version-spec : {M : Type 1} → statement M
 parsed-version-spec =
     tie.close
     (tie.spec
-    bytes-at-requires
+    data-at-requires
     size-requires
     add-at
     size-requires-2

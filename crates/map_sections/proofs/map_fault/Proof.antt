@@ -24,8 +24,8 @@ returns-2 c =
     let a = c .before .before .before .before .before .before .before .args in
     sym (fault-past (now (a .d)) (a .gap) (a .h) (a .s) (a .y) (omega arith))
 
-bytes-at-requires : tie.Need-bytes-at-requires
-bytes-at-requires c κs = search needs
+data-at-requires : tie.Need-data-at-requires
+data-at-requires c κs = search needs
 
 size-requires : tie.Need-size-requires
 size-requires c κs = search needs
@@ -50,7 +50,7 @@ tested : (c : tie.After-invalid-map-definition)
 tested c =
     let p = c .before in
     c .invalid-map-definition .ensures
-    ∙ rw (p .parse-map-def .ensures, p .before .size .ensures .0, p .before .before .bytes-at .ensures .0)
+    ∙ rw (p .parse-map-def .ensures, p .before .size .ensures .0, p .before .before .data-at .ensures .0)
 
 returns-3 : tie.Need-returns-3
 returns-3 c =
@@ -69,7 +69,7 @@ map-fault-spec =
     wide64-requires
     returns
     returns-2
-    bytes-at-requires
+    data-at-requires
     size-requires
     add-at
     add-at-2

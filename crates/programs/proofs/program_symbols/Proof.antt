@@ -39,8 +39,8 @@ symbol-requires c κs = search needs
 is-program-requires : tie.Need-is-program-requires Inv-loop μ-loop
 is-program-requires c κs = search needs
 
-program-fault-requires : tie.Need-program-fault-requires Inv-loop μ-loop
-program-fault-requires c κs = search needs
+parse-program-requires : tie.Need-parse-program-requires Inv-loop μ-loop
+parse-program-requires c κs = search needs
 
 of-symbol-requires : tie.Need-of-symbol-requires Inv-loop μ-loop
 of-symbol-requires c κs = search needs
@@ -55,9 +55,9 @@ returns c =
     let d = now (a .d) in
     let look = refusalAt d (a .gap) (a .h) (a .s) in
     let i = l .loop .i in
-    let fault : f .program-fault .result ≡ programFault (a .s) y = f .program-fault .ensures in
+    let fault : f .parse-program .result ≡ programFault (a .s) y = f .parse-program .ensures in
     let n : programFault (a .s) y ≡ 0 → ⊥ = λ e. c .before .if2 .taken (fault ∙ e) in
-    let at : look (getD (now (a .order)) i 0) ≡ some (record { number = f .program-fault .result; section = a .s .index; symbol = y .index; entry = 0 }) =
+    let at : look (getD (now (a .order)) i 0) ≡ some (record { number = f .parse-program .result; section = a .s .index; symbol = y .index; entry = 0 }) =
     ap (refusalBy d (a .gap) (a .h) (a .s)) (sym (p .before .symbol .ensures))
     ∙ refusal-some d (a .gap) (a .h) (a .s) y (sym (p .is-program .ensures) ∙ f .before .if1 .taken) n
     ∙ rw fault in
@@ -114,7 +114,7 @@ program-symbols-spec =
     shared-slice-read-symbol
     symbol-requires
     is-program-requires
-    program-fault-requires
+    parse-program-requires
     of-symbol-requires
     returns
     add-i

@@ -15,14 +15,14 @@ use Rattle.sections.proofs.parse_kind.Tie as tie
 enum-told : tie.Need-enum-told
 enum-told c = search needs
 
-parse-program-section-requires : tie.Need-parse-program-section-requires
-parse-program-section-requires c κs = search needs
+parse-programs-requires : tie.Need-parse-programs-requires
+parse-programs-requires c κs = search needs
 
 enum-told-2 : tie.Need-enum-told-2
 enum-told-2 c = search needs
 
-maps-refusal-requires : tie.Need-maps-refusal-requires
-maps-refusal-requires c κs = search needs
+parse-maps-section-requires : tie.Need-parse-maps-section-requires
+parse-maps-section-requires c κs = search needs
 
 answer-requires : tie.Need-answer-requires
 answer-requires c κs = search needs
@@ -50,14 +50,14 @@ returns c =
     let p = c .before .before in
     let st = p .before .before .before .before .before .before .before .before .before in
     let a = st .args in
-    kind-program (now (a .d)) (a .gap) (a .h) (a .s) (now (a .functions)) (a .w) (p .parse-program-section .result) _ (sym (st .pre .7) ∙ p .before .before .enum-told .given .1)
-    (p .parse-program-section .ensures)
+    kind-program (now (a .d)) (a .gap) (a .h) (a .s) (now (a .functions)) (a .w) (p .parse-programs .result) _ (sym (st .pre .7) ∙ p .before .before .enum-told .given .1)
+    (p .parse-programs .ensures)
 
 returns-2 : tie.Need-returns-2
 returns-2 c =
     let st = c .before .before .before .before .before .before .before .before .before in
     let a = st .args in
-    rw (c .answer .ensures, c .before .maps-refusal .ensures)
+    rw (c .answer .ensures, c .before .parse-maps-section .ensures)
     (kind-maps (now (a .d)) (a .gap) (a .h) (a .s) (now (a .functions)) (a .w) (sym (st .pre .7) ∙ c .before .before .enum-told2 .given .1))
 
 same-length-2 : tie.Need-same-length-2
@@ -102,9 +102,9 @@ parse-kind-spec =
     tie.close
     (tie.spec
     enum-told
-    parse-program-section-requires
+    parse-programs-requires
     enum-told-2
-    maps-refusal-requires
+    parse-maps-section-requires
     answer-requires
     enum-told-3
     parse-text-section-requires

@@ -1,10 +1,10 @@
--- `sections::parse_program_section` meets its contract: its refusal, else its programs.
+-- `sections::parse_programs` meets its contract: its refusal, else its programs.
 use Rattle.sections.specs.Answers.{answers-refused, answers-fine}
 use Rattle.text.specs.Parsed.{checked-fine, checked-refused}
 use mathlib.Core.Path.{sym, _∙_}
 use borrow.Author.Needs.{needs}
-use Rattle.sections.proofs.parse_program_section.Statement.{statement}
-use Rattle.sections.proofs.parse_program_section.Tie as tie
+use Rattle.sections.proofs.parse_programs.Statement.{statement}
+use Rattle.sections.proofs.parse_programs.Tie as tie
 
 program-refusal-requires : tie.Need-program-refusal-requires
 program-refusal-requires c κs = search needs
@@ -33,8 +33,8 @@ returns-2 c =
     let e = f .before .before .before .before .pre .4 in
     answers-fine _ _ _ _ _ _ (checked-fine _ (sym (f .program-refusal .ensures) ∙ c .before .before .before .before .enum-told .given .1)) (rw e at (n .ensures .0)) (rw e at (n .ensures .1))
 
-pub parse-program-section-spec : {M : Type 1} → statement M
-parse-program-section-spec =
+pub parse-programs-spec : {M : Type 1} → statement M
+parse-programs-spec =
     tie.close
     (tie.spec
     program-refusal-requires

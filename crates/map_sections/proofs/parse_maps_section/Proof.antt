@@ -1,4 +1,4 @@
--- `map_sections::maps_refusal` meets its contract: 9 by an empty group, then the symbols of the group.
+-- `map_sections::parse_maps_section` meets its contract: 9 by an empty group, then the symbols of the group.
 use mathlib.Core.Path.{sym, ap, _∙_}
 use Prim.Native.Nat.{_<_}
 use denote.Ref.{now}
@@ -9,8 +9,8 @@ use Rattle.lists.specs.Slice.{slice-none}
 use Rattle.view.specs.Checked.{checkedOf}
 use Rattle.map_sections.specs.Refused.{refused-empty, refused-symbols}
 use borrow.Author.Needs.{needs}
-use Rattle.map_sections.proofs.maps_refusal.Statement.{statement}
-use Rattle.map_sections.proofs.maps_refusal.Tie as tie
+use Rattle.map_sections.proofs.parse_maps_section.Statement.{statement}
+use Rattle.map_sections.proofs.parse_maps_section.Tie as tie
 
 of-section-requires : tie.Need-of-section-requires
 of-section-requires c κs = search needs
@@ -36,5 +36,5 @@ returns-2 c =
     let l : 0 < length js = rw (length-slice (a .lo) (a .hi) (now (a .order)) (omega arith)) (omega arith) in
     c .map-symbols .ensures ∙ sym (ap checkedOf (refused-symbols (now (a .d)) (a .gap) (a .h) (a .s) js (b .pre .2) l))
 
-pub maps-refusal-spec : {M : Type 1} → statement M
-maps-refusal-spec = tie.close (tie.spec of-section-requires map-symbols-requires returns returns-2)
+pub parse-maps-section-spec : {M : Type 1} → statement M
+parse-maps-section-spec = tie.close (tie.spec of-section-requires map-symbols-requires returns returns-2)
