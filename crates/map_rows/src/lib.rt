@@ -20,11 +20,11 @@ use model::Head;
 use own::own_length;
 use owner::home;
 use program_rows::put7;
+use records::data_at;
 use records::section;
 use records::symbol;
 use stream::size;
 use stream::wide64;
-use view::bytes_at;
 use view::kind_of;
 
 // A row without the places of its name and of its own bytes.
@@ -80,7 +80,7 @@ fn legacy_row(d: &[u8], gap: usize, h: Head, j: u32) -> Row
 {
     let y = symbol(d, gap, h, j);
     let s = section(d, gap, home(d, gap, h, y));
-    let at = bytes_at(h) + size(s.bytes.at) + y.address as usize;
+    let at = data_at(h) + size(s.bytes.at) + y.address as usize;
     Row {
         length: size(y.name.length),
         section: wide64(s.index.0),

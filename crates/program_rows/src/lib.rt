@@ -10,11 +10,11 @@ ghost use Rattle.program_rows.specs.Rows.{rowOf, programRows};
 use model::Head;
 use owner::home;
 use program_section::variant_numbers;
+use records::names_at;
 use records::section;
 use records::symbol;
 use stream::size;
 use stream::wide64;
-use view::names_at;
 
 // A row without the place of its name.
 struct Row {

@@ -26,8 +26,8 @@ home-requires c κs = search needs
 section-requires : tie.Need-section-requires
 section-requires c κs = search needs
 
-bytes-at-requires : tie.Need-bytes-at-requires
-bytes-at-requires c κs = search needs
+data-at-requires : tie.Need-data-at-requires
+data-at-requires c κs = search needs
 
 size-requires : tie.Need-size-requires
 size-requires c κs = search needs
@@ -61,7 +61,7 @@ returns : tie.Need-returns
 returns c =
     let y = c .before .before .before .before .before .before .before .before .before .symbol in
     let s = c .before .before .before .before .before .before .before .section in
-    let p = c .before .before .before .before .before .before .bytes-at in
+    let p = c .before .before .before .before .before .before .data-at in
     let q = c .before .before .before .before .before .size in
     let len = c .before .before .before .before .size2 in
     let b = c .before .before .before .before .before .before .before .before .before .before .before in
@@ -82,7 +82,7 @@ legacy-row-spec =
     symbol-requires
     home-requires
     section-requires
-    bytes-at-requires
+    data-at-requires
     size-requires
     add-at
     add-at-2
