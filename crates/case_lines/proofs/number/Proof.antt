@@ -2,8 +2,8 @@
 use Prim.Native.Nat.{_-_, _<_, _≤_}
 use lib.ListN.{length}
 use borrow.Author.Needs.{needs}
-use Rattle.replay.proofs.number.Statement.{statement}
-use Rattle.replay.proofs.number.Tie as tie
+use Rattle.case_lines.proofs.number.Statement.{statement}
+use Rattle.case_lines.proofs.number.Tie as tie
 
 abbrev Inv-loop : tie.InvT-loop
 Inv-loop s at v₀ i₀ v i = (at < i) × (i ≤ length s)

@@ -2,8 +2,8 @@
 use mathlib.Core.Path.{_≡_}
 use lib.ListN.{length}
 use borrow.Author.Needs.{needs}
-use Rattle.replay.proofs.repeat.Statement.{statement}
-use Rattle.replay.proofs.repeat.Tie as tie
+use Rattle.case_lines.proofs.repeat.Statement.{statement}
+use Rattle.case_lines.proofs.repeat.Tie as tie
 
 abbrev Inv-loop : tie.InvT-loop
 Inv-loop out₀ at count b i₀ left₀ out i left = length out ≡ length out₀

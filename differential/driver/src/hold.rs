@@ -1,0 +1,157 @@
+//! One case: the load call is run on it, held to its judge, and to what needs no judge.
+use crate::answer::{Answer, Lent, Room, Summary};
+use crate::case::{Case, Judge, Refusal};
+use crate::theirs::Theirs;
+use crate::{compare, elf, lay, ours, room, theirs};
+
+/// What our call gave, for the counts.
+pub struct Run {
+    pub answer: Answer,
+    pub lent: Lent,
+}
+
+/// The widths of the tables' rows, in numbers; the function table is lent by rows, the bytes by bytes.
+const WIDTHS: [usize; 6] = [4, 7, 1, 27, 4, 1];
+
+/// What is wrong with our answer, if anything is.
+pub fn hold(case: &Case) -> Result<Run, String> {
+    let room = lent_for(case);
+    let (answer, lent) = ours::load(case, &room, 0xA5);
+    match answer {
+        Answer::Accepted(summary) => {
+            zero_behind(&summary, &lent)?;
+            finds_each(&summary, &lent)?;
+            fits_exactly(case, &summary, &lent)?;
+        }
+        Answer::Refused(refusal) => {
+            ensure(compare::all_zero(&lent), || "refused, and not everything lent is zero".into())?;
+            ensure(refusal.number != 24, || "24, though there is room for every catalogue".into())?;
+            same_without_room(case, &refusal)?;
+        }
+    }
+    let again = ours::load(case, &room, 0);
+    ensure(again == (answer, lent.clone()), || "what was lent before the call shows".into())?;
+    judged(case, &answer, &lent)?;
+    Ok(Run { answer, lent })
+}
+
+fn ensure(holds: bool, otherwise: impl FnOnce() -> String) -> Result<(), String> {
+    if holds {
+        Ok(())
+    } else {
+        Err(otherwise())
+    }
+}
+
+/// Room for every catalogue of the case; some for bytes that no records stand behind.
+fn lent_for(case: &Case) -> Room {
+    match &case.records {
+        Some(records) => room::enough(records),
+        None => from_lengths([64, 64, 8, 128, 64, 1024]),
+    }
+}
+
+fn from_lengths(l: [usize; 6]) -> Room {
+    Room { sections: l[0], programs: l[1], functions: l[2], maps: l[3], relocations: l[4], bytes: l[5] }
+}
+
+/// The lent lengths that the catalogue takes.
+fn taken(s: &Summary) -> [usize; 6] {
+    let rows = [s.sections, s.programs, s.functions, s.maps, s.relocations, s.bytes];
+    let mut lengths = [0; 6];
+    for (k, length) in lengths.iter_mut().enumerate() {
+        *length = rows[k] as usize * WIDTHS[k];
+    }
+    lengths
+}
+
+fn zero_behind(summary: &Summary, lent: &Lent) -> Result<(), String> {
+    let behind = cut(lent, &taken(summary), true).ok_or("the summary counts more than was lent")?;
+    ensure(compare::all_zero(&behind), || "what is lent past the catalogue is not zero".into())
+}
+
+/// The part of each table up to a length, or from it on.
+fn cut(lent: &Lent, at: &[usize; 6], behind: bool) -> Option<Lent> {
+    fn part<T: Clone>(v: &[T], at: usize, behind: bool) -> Option<Vec<T>> {
+        let (front, back) = v.split_at_checked(at)?;
+        Some(if behind { back } else { front }.to_vec())
+    }
+    Some(Lent {
+        sections: part(&lent.sections, at[0], behind)?,
+        programs: part(&lent.programs, at[1], behind)?,
+        functions: part(&lent.functions, at[2], behind)?,
+        maps: part(&lent.maps, at[3], behind)?,
+        relocations: part(&lent.relocations, at[4], behind)?,
+        bytes: part(&lent.bytes, at[5], behind)?,
+    })
+}
+
+/// Each row of the function table is found by its section and address, and no other address between two rows is.
+fn finds_each(summary: &Summary, lent: &Lent) -> Result<(), String> {
+    let count = summary.functions as usize;
+    for (k, row) in lent.functions[..count].iter().enumerate() {
+        let found = ours::find(&lent.functions, count, row.section, row.address);
+        ensure(found == Some(k as u64), || format!("find gives {found:?} for row {k} of the function table"))?;
+        let next = row.address.wrapping_add(1);
+        let known = lent.functions[..count].iter().position(|f| (f.section, f.address) == (row.section, next));
+        let found = ours::find(&lent.functions, count, row.section, next);
+        ensure(found == known.map(|k| k as u64), || format!("find gives {found:?} for the address behind row {k}"))?;
+    }
+    Ok(())
+}
+
+/// Lent exactly what the catalogue takes, the call gives it; with one element less of any, 24 and zeros.
+fn fits_exactly(case: &Case, summary: &Summary, lent: &Lent) -> Result<(), String> {
+    let exact = taken(summary);
+    let (answer, held) = ours::load(case, &from_lengths(exact), 0x5A);
+    ensure(answer == Answer::Accepted(*summary), || format!("lent exactly what it takes: {answer:?}"))?;
+    ensure(Some(held) == cut(lent, &exact, false), || "lent exactly what it takes, the catalogue differs".into())?;
+    for k in (0..6).filter(|&k| exact[k] > 0) {
+        let mut less = exact;
+        less[k] -= 1;
+        let (answer, held) = ours::load(case, &from_lengths(less), 0x5A);
+        let full = Answer::Refused(Refusal { number: 24, section: 0, symbol: 0, entry: 0 });
+        ensure(answer == full && compare::all_zero(&held), || format!("lent one element less ({less:?}): {answer:?}"))?;
+    }
+    Ok(())
+}
+
+/// 24 comes last: a refusal is the same where nothing is lent.
+fn same_without_room(case: &Case, refusal: &Refusal) -> Result<(), String> {
+    let (answer, _) = ours::load(case, &Room::default(), 0);
+    ensure(answer == Answer::Refused(*refusal), || format!("{refusal:?}, but with nothing lent {answer:?}"))
+}
+
+fn judged(case: &Case, answer: &Answer, lent: &Lent) -> Result<(), String> {
+    match &case.judge {
+        Judge::None => Ok(()),
+        Judge::Known(refusal) => ensure(*answer == Answer::Refused(*refusal), || format!("made to be {refusal:?}, is {answer:?}")),
+        Judge::Crate => match compare::difference(answer, lent, &by_crate(case)) {
+            None => Ok(()),
+            Some(text) => Err(text),
+        },
+    }
+}
+
+/// What the crate makes of a case of the domain.
+pub fn by_crate(case: &Case) -> Theirs {
+    let records = case.records.as_ref().expect("a case that the crate judges has records");
+    let list = case.list.as_ref().expect("a case that the crate judges has a list");
+    theirs::run(&elf::write(records), records.sections.len() as u32, list, case.rewrite)
+}
+
+/// A case that the crate judged, for the record: its lent lengths, a little more than the catalogue takes, and what the crate's catalogue lays in them.
+/// A refusal keeps our places, since the crate names few.
+pub fn recorded(case: &Case, run: &Run) -> (Room, Answer, Lent) {
+    let Theirs::Accepted(catalogue) = by_crate(case) else {
+        return (from_lengths([9, 15, 2, 28, 9, 41]), run.answer, Lent::default());
+    };
+    let summary = lay::summary(&catalogue);
+    let mut lengths = taken(&summary);
+    for (length, more) in lengths.iter_mut().zip([3, 3, 1, 3, 3, 5]) {
+        *length += more;
+    }
+    let room = from_lengths(lengths);
+    let lent = lay::lent(&catalogue, &room);
+    (room, Answer::Accepted(summary), lent)
+}
