@@ -1,6 +1,6 @@
 //! What an ELF file names: its sections and symbols as the crate `object` reads them, to find what an error means.
 use object::{
-    ObjectSymbol as _, SymbolKind,
+    ObjectSymbol as _, SectionKind, SymbolKind,
     read::{File, Object as _, ObjectSection as _},
 };
 
@@ -14,6 +14,8 @@ pub struct Places {
 pub struct Section {
     pub index: u32,
     pub name: String,
+    /// Has a text mark and a size.
+    pub code: bool,
 }
 
 #[derive(Debug)]
@@ -23,6 +25,7 @@ pub struct Symbol {
     /// 0 is none.
     pub section: u32,
     pub address: u64,
+    pub size: u64,
     pub defined_text: bool,
 }
 
@@ -38,6 +41,7 @@ impl Places {
                 .map(|s| Section {
                     index: s.index().0 as u32,
                     name: s.name().unwrap_or_default().to_owned(),
+                    code: s.kind() == SectionKind::Text && s.size() > 0,
                 })
                 .collect(),
             symbols: file
@@ -47,6 +51,7 @@ impl Places {
                     name: s.name().unwrap_or_default().to_owned(),
                     section: s.section().index().map_or(0, |i| i.0 as u32),
                     address: s.address(),
+                    size: s.size(),
                     defined_text: s.is_definition() && s.kind() == SymbolKind::Text,
                 })
                 .collect(),

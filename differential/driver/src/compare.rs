@@ -245,7 +245,7 @@ fn refusals(ours: &Refusal, verdict: &Verdict) -> Option<String> {
             "ours is {said}, and {number} doesn't name these places"
         ));
     }
-    let place = &verdict.place;
+    let place = verdict.place;
     (!means(place, ours))
         .then(|| format!("ours is {said}, the crate's refusal means {place:?}: {text}"))
 }
@@ -258,12 +258,12 @@ fn names_its_places(r: &Refusal) -> bool {
     (r.section != 0, r.symbol != 0, r.entry != 0) == (section, symbol, entry)
 }
 
-fn means(place: &Place, r: &Refusal) -> bool {
+fn means(place: Place, r: &Refusal) -> bool {
     match place {
         Place::Unstated => true,
-        Place::Sections(sections) => sections.contains(&r.section),
-        Place::Symbols(symbols) => symbols.contains(&(r.section, r.symbol)),
-        Place::Entries(entries) => entries.contains(&r.entry),
+        Place::Section(section) => section == r.section,
+        Place::Symbol { section, symbol } => (section, symbol) == (r.section, r.symbol),
+        Place::Entry(entry) => entry == r.entry,
     }
 }
 
@@ -550,16 +550,17 @@ mod tests {
 
     #[test]
     fn stated_places_are_held() {
-        let sections = || Place::Sections(vec![2, 5]);
-        assert_eq!(against([9, 5, 0, 0], Some(9), sections()), None);
-        assert!(against([9, 3, 0, 0], Some(9), sections()).is_some());
-        let symbols = || Place::Symbols(vec![(1, 6), (2, 7)]);
-        assert_eq!(against([16, 2, 7, 0], Some(16), symbols()), None);
-        assert!(against([16, 1, 7, 0], Some(16), symbols()).is_some());
-        assert!(against([16, 2, 6, 0], Some(16), symbols()).is_some());
-        let entries = || Place::Entries(vec![3]);
-        assert_eq!(against([21, 0, 0, 3], Some(21), entries()), None);
-        assert!(against([21, 0, 0, 2], Some(21), entries()).is_some());
+        assert_eq!(against([9, 5, 0, 0], Some(9), Place::Section(5)), None);
+        assert!(against([9, 3, 0, 0], Some(9), Place::Section(5)).is_some());
+        let symbol = Place::Symbol {
+            section: 2,
+            symbol: 7,
+        };
+        assert_eq!(against([16, 2, 7, 0], Some(16), symbol), None);
+        assert!(against([16, 1, 7, 0], Some(16), symbol).is_some());
+        assert!(against([16, 2, 6, 0], Some(16), symbol).is_some());
+        assert_eq!(against([21, 0, 0, 3], Some(21), Place::Entry(3)), None);
+        assert!(against([21, 0, 0, 2], Some(21), Place::Entry(3)).is_some());
     }
 
     #[test]
