@@ -14,8 +14,7 @@ import shlex
 import struct
 import sys
 
-NONE = 0xFFFFFFFF
-BLOCK = 508
+import records
 
 
 def data_of(text):
@@ -29,7 +28,7 @@ def data_of(text):
 
 def index_of(table, name):
     if name == "-":
-        return NONE
+        return records.NONE
     if name.startswith("#"):
         return int(name[1:], 0)
     return next(record["index"] for record in table if record["name"] == name)
@@ -67,45 +66,49 @@ def read(lines):
     return order, sections, symbols, relocations
 
 
-def stream_of(order, sections, symbols, relocations):
-    names, data, tables = b"", b"", [b"", b"", b""]
+def number_of(record, key, default):
+    return int(record.get(key, str(default)), 0)
+
+
+def sections_of(sections, symbols, relocations):
     for section in sections:
         own = [entry for entry in relocations if index_of(sections, entry[0]) == section["index"]]
-        content = data_of(section.get("data", ""))
-        first = len(tables[2]) // 16
-        for _, offset, symbol, size in own:
-            tables[2] += struct.pack("<QIB3x", int(offset, 0), index_of(symbols, symbol), int(size, 0))
-        name = section["name"].encode("latin-1")
-        tables[0] += struct.pack("<IIIIQQIIII", section["index"], "text" in section["marks"], len(names), len(name),
-                                 int(section.get("address", "0"), 0), int(section.get("size", str(len(content))), 0),
-                                 len(data), len(content), first, len(own))
-        names, data = names + name, data + content
+        data = data_of(section.get("data", ""))
+        yield records.Section(
+            section["index"],
+            int("text" in section["marks"]),
+            section["name"].encode("latin-1"),
+            number_of(section, "address", 0),
+            number_of(section, "size", len(data)),
+            data,
+            [records.Relocation(int(offset, 0), index_of(symbols, symbol), int(size, 0)) for _, offset, symbol, size in own],
+        )
+
+
+def symbols_of(sections, symbols):
     for symbol in symbols:
-        name = symbol["name"].encode("latin-1")
-        kind = 1 if "text" in symbol["marks"] else 2 if "data" in symbol["marks"] else 0
-        tables[1] += struct.pack("<IIIIQQBB6x", symbol["index"], index_of(sections, symbol.get("section", "-")), len(names), len(name),
-                                 int(symbol.get("address", "0"), 0), int(symbol.get("size", "0"), 0), kind, "defined" in symbol["marks"])
-        names += name
-    head = struct.pack("<IIIIII8x", order, len(sections), len(symbols), len(relocations), len(names), len(data))
-    return head + b"".join(tables) + names + data
+        yield records.Symbol(
+            symbol["index"],
+            index_of(sections, symbol.get("section", "-")),
+            symbol["name"].encode("latin-1"),
+            number_of(symbol, "address", 0),
+            number_of(symbol, "size", 0),
+            1 if "text" in symbol["marks"] else 2 if "data" in symbol["marks"] else 0,
+            int("defined" in symbol["marks"]),
+        )
 
 
-def deposit_of(stream):
-    """Blocks of 508 bytes, each followed by its check."""
-    out = b""
-    for number, at in enumerate(range(0, len(stream), BLOCK), 1):
-        block = stream[at:at + BLOCK].ljust(BLOCK, b"\0")
-        out += block + struct.pack("<I", sum(k * byte for k, byte in enumerate(block, 1)) + number)
-    return out
+def deposit_of(order, sections, symbols, relocations):
+    return records.deposit_of(order, list(sections_of(sections, symbols, relocations)), list(symbols_of(sections, symbols)))
 
 
 def main():
     if len(sys.argv) != 3:
         sys.exit(__doc__)
     with open(sys.argv[1], encoding="latin-1") as description:
-        stream = stream_of(*read(description))
+        written = deposit_of(*read(description))
     with open(sys.argv[2], "wb") as deposit:
-        deposit.write(deposit_of(stream))
+        deposit.write(written)
 
 
 main()

@@ -1,0 +1,25 @@
+// A program of each kind that the other samples leave out.
+#include "meter.h"
+#define PROGRAM(section, name) SEC(section) int name(void *c) { return 0; }
+PROGRAM("raw_tp/sys_enter", raw)
+PROGRAM("tracepoint/syscalls/sys_enter_open", trace)
+PROGRAM("tp_btf/task_newtask", task)
+PROGRAM("perf_event", cycles)
+PROGRAM("uretprobe.multi.s/libc.so:malloc", returned)
+PROGRAM("uprobe.multi/libc.so:free", freed)
+PROGRAM("fentry/tcp_connect", entry)
+PROGRAM("fentry.s/bpf_fentry", sleepable_entry)
+PROGRAM("fexit/tcp_close", leave)
+PROGRAM("fexit.s/bpf_fexit", sleepable_leave)
+PROGRAM("lsm/file_open", guard)
+PROGRAM("lsm.s/bprm_check", sleepable_guard)
+PROGRAM("freplace/filter", replaced)
+PROGRAM("iter/task", tasks)
+PROGRAM("iter.s/bpf_map", maps_of)
+PROGRAM("flow_dissector", dissect)
+PROGRAM("lirc_mode2", remote)
+PROGRAM("classifier/egress", classify)
+PROGRAM("xdp.frags", jumbo)
+PROGRAM("xdp.frags/cpumap", per_cpu)
+PROGRAM("sk_reuseport", select)
+char licence[] SEC("license") = "GPL v2";
