@@ -1,0 +1,2 @@
+-- What the exported calls say.
+pub mod Called
