@@ -7,12 +7,18 @@ mod domain;
 mod elf;
 mod generate;
 mod hold;
+mod kinds;
 mod lay;
 mod objects;
 mod ours;
+mod parsing;
+mod patch_list;
 mod record;
 mod rng;
 mod room;
+mod rules;
+#[cfg(test)]
+mod sample;
 mod shrink;
 mod tally;
 mod theirs;

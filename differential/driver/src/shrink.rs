@@ -1,0 +1,2 @@
+use crate::case::Case;
+pub fn shrink(case: Case, _fails: &mut dyn FnMut(&Case) -> bool) -> Case { case }
