@@ -501,7 +501,10 @@ class Command(unittest.TestCase):
         self.assertFalse(os.path.exists(out))
 
     def test_terminal(self):
-        here, there = pty.openpty()
+        try:
+            here, there = pty.openpty()
+        except OSError:
+            self.skipTest("needs a pseudo-terminal")
         self.addCleanup(os.close, here)
         self.addCleanup(os.close, there)
         self.fails("a deposit is not text, and standard output is a terminal; send it to a file by > or -o", self.path, stdout=there)
