@@ -1,13 +1,23 @@
 //! Real objects: the crate on the file, the load call on the deposit that `./deposit` makes of it.
+use std::collections::BTreeMap;
+use std::fmt::Display;
 use std::fs;
 use std::path::{Path, PathBuf};
 
 use crate::answer::{Answer, Room};
-use crate::case::{Case, Judge};
+use crate::case::{Case, Judge, Refusal};
+use crate::theirs::Theirs;
 use crate::{compare, ours, theirs};
 
 /// Room for what such an object takes.
 const ROOM: Room = Room { sections: 1 << 14, programs: 1 << 14, functions: 1 << 12, maps: 1 << 16, relocations: 1 << 18, bytes: 1 << 24 };
+
+enum Held {
+    Accepted,
+    Refused(Refusal),
+    Outside(&'static str),
+    Differs(String),
+}
 
 /// Whether all agree.
 pub fn run(folder: &Path) -> bool {
@@ -18,22 +28,31 @@ pub fn run(folder: &Path) -> bool {
             return false;
         }
     };
-    let (mut accepted, mut refused, mut differ) = (0, 0, 0);
+    let mut accepted = 0;
+    let mut refused: BTreeMap<u32, u32> = BTreeMap::new();
+    let mut outside: BTreeMap<&str, u32> = BTreeMap::new();
+    let mut differ = 0;
     for file in &files {
-        match beside(file) {
-            Ok(Answer::Accepted(_)) => accepted += 1,
-            Ok(Answer::Refused(r)) => {
-                refused += 1;
-                println!("{}: refused {} {} {} on both sides", name(file), r.number, r.section, r.symbol);
-            }
-            Err(text) => {
+        match beside(file).unwrap_or_else(Held::Differs) {
+            Held::Accepted => accepted += 1,
+            Held::Refused(r) => *refused.entry(r.number).or_default() += 1,
+            Held::Outside(why) => *outside.entry(why).or_default() += 1,
+            Held::Differs(text) => {
                 differ += 1;
                 println!("{}: {text}", name(file));
             }
         }
     }
-    println!("{} objects: {accepted} accepted and {refused} refused on both sides, {differ} differ", files.len());
+    println!("objects refused on both sides, by number:{}", listed(&refused));
+    println!("objects outside the comparison:{}", listed(&outside));
+    let both: u32 = refused.values().sum();
+    println!("{} objects: {accepted} accepted and {both} refused on both sides, {} outside, {differ} differ", files.len(), outside.values().sum::<u32>());
     differ == 0
+}
+
+fn listed<K: Display>(counts: &BTreeMap<K, u32>) -> String {
+    let words: Vec<String> = counts.iter().map(|(key, n)| format!(" {key} ({n})")).collect();
+    words.join(",")
 }
 
 fn name(file: &Path) -> String {
@@ -47,8 +66,9 @@ fn objects(folder: &Path) -> std::io::Result<Vec<PathBuf>> {
     Ok(files)
 }
 
-fn beside(file: &Path) -> Result<Answer, String> {
+fn beside(file: &Path) -> Result<Held, String> {
     let read = |f: &Path| fs::read(f).map_err(|e| format!("{}: {e}", name(f)));
+    let object = read(file)?;
     let case = Case {
         aim: "a real object",
         deposit: read(&file.with_extension("deposit"))?,
@@ -59,14 +79,29 @@ fn beside(file: &Path) -> Result<Answer, String> {
         rewrite: false,
         judge: Judge::None,
     };
-    let object = read(file)?;
-    for rewrite in [false, true] {
-        let case = Case { rewrite, ..case.clone() };
-        let (answer, lent) = ours::load(&case, &ROOM, 0xA5);
-        // The file's own tables are in the deposit too.
-        if let Some(text) = compare::difference(&answer, &lent, &theirs::run(&object, u32::MAX, &[], rewrite)) {
-            return Err(text);
-        }
+    let plain = held(&case, &object);
+    match held(&Case { rewrite: true, ..case }, &object) {
+        Held::Differs(text) => Err(format!("with rewriting: {text}")),
+        _ => Ok(plain),
     }
-    Ok(ours::load(&case, &ROOM, 0).0)
+}
+
+fn held(case: &Case, object: &[u8]) -> Held {
+    let (answer, lent) = ours::load(case, &ROOM, 0xA5);
+    // The file's own tables are in the deposit too.
+    let theirs = theirs::run(object, u32::MAX, &[], case.rewrite);
+    match answer {
+        Answer::Refused(Refusal { number: 3, .. }) => return Held::Outside("section .BTF"),
+        Answer::Refused(Refusal { number: 16, .. }) if undefined_pinning(&theirs) => return Held::Outside("pinning neither 0 nor 1"),
+        _ => (),
+    }
+    match (compare::difference(&answer, &lent, &theirs), answer) {
+        (Some(text), _) => Held::Differs(text),
+        (None, Answer::Accepted(_)) => Held::Accepted,
+        (None, Answer::Refused(r)) => Held::Refused(r),
+    }
+}
+
+fn undefined_pinning(theirs: &Theirs) -> bool {
+    matches!(theirs, Theirs::Accepted(c) if c.maps.iter().any(|m| m.words[6] > 1))
 }
