@@ -1,4 +1,6 @@
 // Reads a deposit from standard input and writes its catalogue, or why it goes back.
+mod room;
+
 ghost use mathlib.Core.Path.{_≡_};
 ghost use Prim.Native.Nat.{_+_, _*_, _≤_};
 ghost use lib.ListN.{length, take};
@@ -59,17 +61,16 @@ fn list(
     put_answer(out, 0, answer, programs, functions, maps, bytes)
 }
 
-// The sizes that docs/CATALOGUE.md states.
 fn main() {
-    let mut d = [0u8; 65537];
+    let mut d = room::deposit();
     let n = io::read_full(STDIN_FILENO, &mut d);
-    let mut sections = [0u64; 5416];
-    let mut programs = [0u64; 11368];
-    let mut functions = [0u64; 11368];
-    let mut maps = [0u64; 43848];
-    let mut relocations = [0u64; 16384];
-    let mut bytes = [0u8; 524288];
-    let mut out = [0u8; 1048576];
+    let mut sections = room::sections();
+    let mut programs = room::symbols();
+    let mut functions = room::symbols();
+    let mut maps = room::maps();
+    let mut relocations = room::relocations();
+    let mut bytes = room::bytes();
+    let mut out = room::text();
     let end = list(
         &d[..n],
         &mut sections,
