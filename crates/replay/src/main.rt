@@ -1,5 +1,8 @@
 // Each line of the input is a case, in the form of crates/case_lines. What it lends is filled with a pattern before the call.
 use case_lines::Case;
+
+mod room;
+
 use case_lines::find;
 use case_lines::least;
 use case_lines::read_case;
@@ -30,7 +33,7 @@ fn replay(
         relocations,
         bytes,
     );
-    let mut out = [0u8; 262144];
+    let mut out = room::answer();
     tell(
         name,
         answer,
@@ -79,14 +82,14 @@ fn lend(
     );
 }
 
-// What is lent to be written, filled with a pattern and as large as a case may ask for.
+// What is lent to be written is as large as a case may ask for.
 fn run_case(name: &[u8], d: &[u8], entries: &[u64], patches: &[u8], rest: [u64; 7]) {
-    let mut sections = [11936128518282651045u64; 4096];
-    let mut programs = [11936128518282651045u64; 4096];
-    let mut functions = [11936128518282651045u64; 16384];
-    let mut maps = [11936128518282651045u64; 8192];
-    let mut relocations = [11936128518282651045u64; 8192];
-    let mut bytes = [165u8; 131072];
+    let mut sections = room::rows();
+    let mut programs = room::rows();
+    let mut functions = room::functions();
+    let mut maps = room::wide_rows();
+    let mut relocations = room::wide_rows();
+    let mut bytes = room::bytes();
     lend(
         name,
         d,
@@ -127,14 +130,14 @@ fn run(text: &[u8], d: &mut [u8], entries: &mut [u64], patches: &mut [u8]) {
 }
 
 fn run_all(text: &[u8]) {
-    let mut d = [0u8; 131072];
+    let mut d = room::deposit();
     let mut entries = [0u64; 1024];
     let mut patches = [0u8; 8192];
     run(text, &mut d, &mut entries, &mut patches);
 }
 
 fn main() {
-    let mut text = [0u8; 4194304];
+    let mut text = room::text();
     let n = io::read_full(libc::STDIN_FILENO, &mut text);
     run_all(&text[..n]);
 }
