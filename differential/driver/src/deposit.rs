@@ -1,5 +1,5 @@
 //! Deposits: records as a stream, a stream in blocks with checks, and back (document 01, 'The deposit').
-use crate::case::{Extent, RelocationRecord, Records, SectionRecord, SymbolRecord};
+use crate::case::{Extent, Records, RelocationRecord, SectionRecord, SymbolRecord};
 use crate::rules::{broken, MOST_BYTES, MOST_RECORDS, MOST_SECTIONS};
 
 pub const BLOCK: usize = 512;
@@ -27,7 +27,14 @@ fn places_of(counts: [usize; 5]) -> Places {
     let relocations = symbols + SYMBOL * counts[1];
     let names = relocations + RELOCATION * counts[2];
     let data = names + counts[3];
-    Places { sections, symbols, relocations, names, data, end: data + counts[4] }
+    Places {
+        sections,
+        symbols,
+        relocations,
+        names,
+        data,
+        end: data + counts[4],
+    }
 }
 
 pub fn places(records: &Records) -> Places {
@@ -35,7 +42,13 @@ pub fn places(records: &Records) -> Places {
 }
 
 fn counts(records: &Records) -> [usize; 5] {
-    [records.sections.len(), records.symbols.len(), records.relocations.len(), records.names.len(), records.data.len()]
+    [
+        records.sections.len(),
+        records.symbols.len(),
+        records.relocations.len(),
+        records.names.len(),
+        records.data.len(),
+    ]
 }
 
 /// The length of the records' deposit.
@@ -57,7 +70,15 @@ pub fn stream(records: &Records) -> Vec<u8> {
         put(&mut out, &[x.index, x.mark, x.name.at, x.name.length]);
         out.extend(x.address.to_le_bytes());
         out.extend(x.size.to_le_bytes());
-        put(&mut out, &[x.bytes.at, x.bytes.length, x.relocations.at, x.relocations.length]);
+        put(
+            &mut out,
+            &[
+                x.bytes.at,
+                x.bytes.length,
+                x.relocations.at,
+                x.relocations.length,
+            ],
+        );
     }
     for y in &records.symbols {
         put(&mut out, &[y.index, y.section, y.name.at, y.name.length]);
@@ -94,7 +115,11 @@ pub fn seal(stream: &[u8]) -> Vec<u8> {
 
 /// The check of a block's stream bytes; `number` counts from 1.
 pub fn check(part: &[u8], number: usize) -> u32 {
-    let sum: u32 = part.iter().zip(1..).map(|(&byte, k)| u32::from(byte) * k).sum();
+    let sum: u32 = part
+        .iter()
+        .zip(1..)
+        .map(|(&byte, k)| u32::from(byte) * k)
+        .sum();
     sum + number as u32
 }
 
@@ -109,7 +134,7 @@ pub fn read(deposit: &[u8]) -> Result<Records, u32> {
 }
 
 fn opened(deposit: &[u8]) -> Option<Vec<u8>> {
-    if deposit.is_empty() || deposit.len() > MOST_BYTES || deposit.len() % BLOCK != 0 {
+    if deposit.is_empty() || deposit.len() > MOST_BYTES || !deposit.len().is_multiple_of(BLOCK) {
         return None;
     }
     let mut out = Vec::with_capacity(deposit.len());
@@ -128,19 +153,32 @@ fn records_of(stream: &[u8]) -> Option<Records> {
     let order = head.u32();
     let counts = [(); 5].map(|()| head.u32() as usize);
     let reserved = head.u64();
-    if reserved != 0 || counts[0] > MOST_SECTIONS || counts[1] > MOST_RECORDS || counts[2] > MOST_RECORDS {
+    if reserved != 0
+        || counts[0] > MOST_SECTIONS
+        || counts[1] > MOST_RECORDS
+        || counts[2] > MOST_RECORDS
+    {
         return None;
     }
     let at = places_of(counts);
-    if at.end.div_ceil(STREAM) * STREAM != stream.len() || stream[at.end..].iter().any(|&b| b != 0) {
+    if at.end.div_ceil(STREAM) * STREAM != stream.len() || stream[at.end..].iter().any(|&b| b != 0)
+    {
         return None;
     }
-    let rows = |from: usize, to: usize, width: usize| stream[from..to].chunks(width).map(|bytes| Reader { bytes });
+    let rows = |from: usize, to: usize, width: usize| {
+        stream[from..to].chunks(width).map(|bytes| Reader { bytes })
+    };
     Some(Records {
         order,
-        sections: rows(at.sections, at.symbols, SECTION).map(section).collect(),
-        symbols: rows(at.symbols, at.relocations, SYMBOL).map(symbol).collect::<Option<_>>()?,
-        relocations: rows(at.relocations, at.names, RELOCATION).map(relocation).collect::<Option<_>>()?,
+        sections: rows(at.sections, at.symbols, SECTION)
+            .map(section)
+            .collect(),
+        symbols: rows(at.symbols, at.relocations, SYMBOL)
+            .map(symbol)
+            .collect::<Option<_>>()?,
+        relocations: rows(at.relocations, at.names, RELOCATION)
+            .map(relocation)
+            .collect::<Option<_>>()?,
         names: stream[at.names..at.data].to_vec(),
         data: stream[at.data..at.end].to_vec(),
     })
@@ -159,7 +197,14 @@ fn section(mut r: Reader) -> SectionRecord {
 }
 
 fn symbol(mut r: Reader) -> Option<SymbolRecord> {
-    let mut out = SymbolRecord { index: r.u32(), section: r.u32(), name: r.extent(), address: r.u64(), size: r.u64(), ..Default::default() };
+    let mut out = SymbolRecord {
+        index: r.u32(),
+        section: r.u32(),
+        name: r.extent(),
+        address: r.u64(),
+        size: r.u64(),
+        ..Default::default()
+    };
     let [kind, definition, reserved @ ..] = r.u64().to_le_bytes();
     (out.kind, out.definition) = (kind, definition);
     (reserved == [0; 6]).then_some(out)
@@ -168,7 +213,11 @@ fn symbol(mut r: Reader) -> Option<SymbolRecord> {
 fn relocation(mut r: Reader) -> Option<RelocationRecord> {
     let (offset, symbol) = (r.u64(), r.u32());
     let [size, reserved @ ..] = r.u32().to_le_bytes();
-    (reserved == [0; 3]).then_some(RelocationRecord { offset, symbol, size })
+    (reserved == [0; 3]).then_some(RelocationRecord {
+        offset,
+        symbol,
+        size,
+    })
 }
 
 /// Numbers one after the other.
@@ -189,7 +238,10 @@ impl Reader<'_> {
     }
 
     fn extent(&mut self) -> Extent {
-        Extent { at: self.u32(), length: self.u32() }
+        Extent {
+            at: self.u32(),
+            length: self.u32(),
+        }
     }
 }
 
@@ -198,7 +250,12 @@ mod tests {
     use super::*;
 
     fn sample() -> Records {
-        let mut records = Records { order: 1, names: b"xdp".to_vec(), data: (0..=255).cycle().take(600).collect(), ..Default::default() };
+        let mut records = Records {
+            order: 1,
+            names: b"xdp".to_vec(),
+            data: (0..=255).cycle().take(600).collect(),
+            ..Default::default()
+        };
         records.sections.push(SectionRecord {
             index: 1,
             mark: 1,
@@ -208,8 +265,20 @@ mod tests {
             bytes: Extent { at: 0, length: 600 },
             relocations: Extent { at: 0, length: 1 },
         });
-        records.symbols.push(SymbolRecord { index: 7, section: 1, name: Extent { at: 1, length: 2 }, address: 8, size: 16, kind: 1, definition: 1 });
-        records.relocations.push(RelocationRecord { offset: 0x1122_3344_5566_7788, symbol: 7, size: 64 });
+        records.symbols.push(SymbolRecord {
+            index: 7,
+            section: 1,
+            name: Extent { at: 1, length: 2 },
+            address: 8,
+            size: 16,
+            kind: 1,
+            definition: 1,
+        });
+        records.relocations.push(RelocationRecord {
+            offset: 0x1122_3344_5566_7788,
+            symbol: 7,
+            size: 64,
+        });
         records
     }
 
@@ -218,17 +287,29 @@ mod tests {
         let mut expected = vec![0; 512];
         expected[508] = 1;
         assert_eq!(lay_out(&Records::default()), expected);
-        let big = lay_out(&Records { order: 1, ..Default::default() });
+        let big = lay_out(&Records {
+            order: 1,
+            ..Default::default()
+        });
         assert_eq!((big[0], big[508]), (1, 2));
     }
 
     #[test]
     fn numbers_stand_where_the_document_says() {
         let stream = stream(&sample());
-        assert_eq!(&stream[..32], [1, 0, 0, 0, 1, 0, 0, 0, 1, 0, 0, 0, 1, 0, 0, 0, 3, 0, 0, 0, 88, 2, 0, 0, 0, 0, 0, 0, 0, 0, 0, 0]);
+        assert_eq!(
+            &stream[..32],
+            [
+                1, 0, 0, 0, 1, 0, 0, 0, 1, 0, 0, 0, 1, 0, 0, 0, 3, 0, 0, 0, 88, 2, 0, 0, 0, 0, 0,
+                0, 0, 0, 0, 0
+            ]
+        );
         assert_eq!(&stream[32 + 16..32 + 24], [8, 7, 6, 5, 4, 3, 2, 1]);
         assert_eq!(&stream[80 + 32..80 + 40], [1, 1, 0, 0, 0, 0, 0, 0]);
-        assert_eq!(&stream[120..136], [0x88, 0x77, 0x66, 0x55, 0x44, 0x33, 0x22, 0x11, 7, 0, 0, 0, 64, 0, 0, 0]);
+        assert_eq!(
+            &stream[120..136],
+            [0x88, 0x77, 0x66, 0x55, 0x44, 0x33, 0x22, 0x11, 7, 0, 0, 0, 64, 0, 0, 0]
+        );
         assert_eq!(&stream[136..141], b"xdp\0\x01");
     }
 
@@ -236,7 +317,9 @@ mod tests {
     fn the_second_block_has_its_own_check() {
         let deposit = lay_out(&sample());
         assert_eq!((deposit.len(), length(&sample())), (1024, 1024));
-        let sum: u32 = (0..508).map(|k| (k as u32 + 1) * u32::from(deposit[512 + k])).sum();
+        let sum: u32 = (0..508)
+            .map(|k| (k as u32 + 1) * u32::from(deposit[512 + k]))
+            .sum();
         assert_eq!(deposit[1020..], (sum + 2).to_le_bytes());
     }
 
@@ -249,7 +332,12 @@ mod tests {
     #[test]
     fn read_refuses_lengths_and_checks() {
         let good = lay_out(&sample());
-        for bad in [&[][..], &good[..511], &good[..1023], &[&good[..], &[0]].concat()] {
+        for bad in [
+            &[][..],
+            &good[..511],
+            &good[..1023],
+            &[&good[..], &[0]].concat(),
+        ] {
             assert_eq!(read(bad), Err(1));
         }
         for at in [0, 507, 508, 511, 600, 1023] {
@@ -281,9 +369,19 @@ mod tests {
 
     #[test]
     fn a_full_block_needs_no_further_one() {
-        let full = Records { data: vec![1; 508 - 32], ..Default::default() };
+        let full = Records {
+            data: vec![1; 508 - 32],
+            ..Default::default()
+        };
         assert_eq!(lay_out(&full).len(), 512);
-        assert_eq!(lay_out(&Records { data: vec![1; 509 - 32], ..Default::default() }).len(), 1024);
+        assert_eq!(
+            lay_out(&Records {
+                data: vec![1; 509 - 32],
+                ..Default::default()
+            })
+            .len(),
+            1024
+        );
         assert_eq!(read(&lay_out(&full)), Ok(full));
     }
 }

@@ -20,35 +20,75 @@ const ABSENT: u16 = 0xFEFF;
 
 /// The records must be in the domain of comparison.
 pub fn write(records: &Records) -> Vec<u8> {
-    let mut out = Out { bytes: vec![0; HEAD as usize], big: records.order == 1 };
+    let mut out = Out {
+        bytes: vec![0; HEAD as usize],
+        big: records.order == 1,
+    };
     out.bytes.extend(&records.data);
     let mut strings = Strings::new();
     let own_name = strings.own_name(records);
-    let section_names: Vec<u32> = records.sections.iter().map(|x| strings.place(records, x.name)).collect();
+    let section_names: Vec<u32> = records
+        .sections
+        .iter()
+        .map(|x| strings.place(records, x.name))
+        .collect();
     let symbols = symbols(records, &mut strings, out.big);
     let strings_at = out.put(&strings.bytes);
     let symbols_at = out.put(&symbols);
     let relocations_at = out.put(&relocations(records, out.big));
 
     let mut headers = vec![Header::default()];
-    headers.extend(records.sections.iter().zip(section_names).map(|(x, name)| section_header(x, name)));
-    let own = |kind, offset, size: usize| Header { name: own_name, kind, offset, size: size as u64, align: 8, ..Default::default() };
+    headers.extend(
+        records
+            .sections
+            .iter()
+            .zip(section_names)
+            .map(|(x, name)| section_header(x, name)),
+    );
+    let own = |kind, offset, size: usize| Header {
+        name: own_name,
+        kind,
+        offset,
+        size: size as u64,
+        align: 8,
+        ..Default::default()
+    };
     let strings_index = headers.len() as u32;
     headers.push(own(STRTAB, strings_at, strings.bytes.len()));
     let mut symbols_index = 0;
     if !records.symbols.is_empty() {
         symbols_index = headers.len() as u32;
-        headers.push(Header { link: strings_index, info: 1, entry: 24, ..own(SYMTAB, symbols_at, symbols.len()) });
+        headers.push(Header {
+            link: strings_index,
+            info: 1,
+            entry: 24,
+            ..own(SYMTAB, symbols_at, symbols.len())
+        });
     }
     for section in records.sections.iter().filter(|x| x.relocations.length > 0) {
-        let table = own(REL, relocations_at + 16 * u64::from(section.relocations.at), 16 * section.relocations.length as usize);
-        headers.push(Header { flags: INFO_LINK, link: symbols_index, info: section.index, entry: 16, ..table });
+        let table = own(
+            REL,
+            relocations_at + 16 * u64::from(section.relocations.at),
+            16 * section.relocations.length as usize,
+        );
+        headers.push(Header {
+            flags: INFO_LINK,
+            link: symbols_index,
+            info: section.index,
+            entry: 16,
+            ..table
+        });
     }
     let headers_at = out.align();
     for header in &headers {
         out.header(header);
     }
-    let head = head(records.order == 1, headers_at, headers.len() as u16, strings_index as u16);
+    let head = head(
+        records.order == 1,
+        headers_at,
+        headers.len() as u16,
+        strings_index as u16,
+    );
     out.bytes[..head.len()].copy_from_slice(&head);
     out.bytes
 }
@@ -61,20 +101,30 @@ struct Strings {
 
 impl Strings {
     fn new() -> Strings {
-        Strings { bytes: vec![0], places: HashMap::new() }
+        Strings {
+            bytes: vec![0],
+            places: HashMap::new(),
+        }
     }
 
     fn place(&mut self, records: &Records, name: Extent) -> u32 {
         if name.length == 0 {
             return 0;
         }
-        *self.places.entry((name.at, name.length)).or_insert_with(|| add(&mut self.bytes, piece(&records.names, name)))
+        *self
+            .places
+            .entry((name.at, name.length))
+            .or_insert_with(|| add(&mut self.bytes, piece(&records.names, name)))
     }
 
     /// All own tables have one name, which no section of the records has.
     fn own_name(&mut self, records: &Records) -> u32 {
         let mut name = b"~".to_vec();
-        while records.sections.iter().any(|x| piece(&records.names, x.name) == name) {
+        while records
+            .sections
+            .iter()
+            .any(|x| piece(&records.names, x.name) == name)
+        {
             name.push(b'~');
         }
         add(&mut self.bytes, &name)
@@ -93,7 +143,10 @@ fn symbols(records: &Records, strings: &mut Strings, big: bool) -> Vec<u8> {
     if records.symbols.is_empty() {
         return Vec::new();
     }
-    let mut out = Out { bytes: vec![0; 24], big };
+    let mut out = Out {
+        bytes: vec![0; 24],
+        big,
+    };
     for symbol in &records.symbols {
         out.u32(strings.place(records, symbol.name));
         out.bytes.extend([GLOBAL | symbol_type(symbol), 0]);
@@ -122,9 +175,16 @@ fn symbol_section(records: &Records, symbol: &SymbolRecord) -> u16 {
 
 /// All relocation records, in their order; a section's table is a part of them.
 fn relocations(records: &Records, big: bool) -> Vec<u8> {
-    let mut out = Out { bytes: Vec::new(), big };
+    let mut out = Out {
+        bytes: Vec::new(),
+        big,
+    };
     for relocation in &records.relocations {
-        let symbol = if relocation.symbol == NONE { 0 } else { relocation.symbol };
+        let symbol = if relocation.symbol == NONE {
+            0
+        } else {
+            relocation.symbol
+        };
         let kind = match relocation.size {
             64 => 1,
             32 => 10,
@@ -141,7 +201,11 @@ fn section_header(section: &SectionRecord, name: u32) -> Header {
     Header {
         name,
         kind: if without_data { NOBITS } else { PROGBITS },
-        flags: if section.mark == 1 { ALLOC | EXECINSTR } else { ALLOC },
+        flags: if section.mark == 1 {
+            ALLOC | EXECINSTR
+        } else {
+            ALLOC
+        },
         address: section.address,
         offset: HEAD + u64::from(section.bytes.at),
         size: section.size,
@@ -151,7 +215,10 @@ fn section_header(section: &SectionRecord, name: u32) -> Header {
 }
 
 fn head(big: bool, headers_at: u64, headers: u16, strings_index: u16) -> Vec<u8> {
-    let mut out = Out { bytes: vec![0x7F, b'E', b'L', b'F', 2, if big { 2 } else { 1 }, 1], big };
+    let mut out = Out {
+        bytes: vec![0x7F, b'E', b'L', b'F', 2, if big { 2 } else { 1 }, 1],
+        big,
+    };
     out.bytes.resize(16, 0);
     out.u16(1); // relocatable
     out.u16(247); // BPF
@@ -188,15 +255,27 @@ struct Out {
 
 impl Out {
     fn u16(&mut self, n: u16) {
-        self.bytes.extend(if self.big { n.to_be_bytes() } else { n.to_le_bytes() });
+        self.bytes.extend(if self.big {
+            n.to_be_bytes()
+        } else {
+            n.to_le_bytes()
+        });
     }
 
     fn u32(&mut self, n: u32) {
-        self.bytes.extend(if self.big { n.to_be_bytes() } else { n.to_le_bytes() });
+        self.bytes.extend(if self.big {
+            n.to_be_bytes()
+        } else {
+            n.to_le_bytes()
+        });
     }
 
     fn u64(&mut self, n: u64) {
-        self.bytes.extend(if self.big { n.to_be_bytes() } else { n.to_le_bytes() });
+        self.bytes.extend(if self.big {
+            n.to_be_bytes()
+        } else {
+            n.to_le_bytes()
+        });
     }
 
     /// Fills up to a multiple of 8 and says where that is.
@@ -231,7 +310,9 @@ mod tests {
 
     /// Little-endian fields of a file, by their widths.
     fn number(file: &[u8], at: usize, width: usize) -> u64 {
-        (0..width).rev().fold(0, |sum, k| sum << 8 | u64::from(file[at + k]))
+        (0..width)
+            .rev()
+            .fold(0, |sum, k| sum << 8 | u64::from(file[at + k]))
     }
 
     /// Name, type, flags, offset, size, link, info of a section.
@@ -241,15 +322,30 @@ mod tests {
         let name = number(file, strings + 24, 8) as usize + number(file, at, 4) as usize;
         let end = name + file[name..].iter().position(|&b| b == 0).unwrap();
         let n = |offset, width| number(file, at + offset, width);
-        (file[name..end].to_vec(), n(4, 4), n(8, 8), n(24, 8) as usize, n(32, 8) as usize, n(40, 4), n(44, 4))
+        (
+            file[name..end].to_vec(),
+            n(4, 4),
+            n(8, 8),
+            n(24, 8) as usize,
+            n(32, 8) as usize,
+            n(40, 4),
+            n(44, 4),
+        )
     }
 
     fn sample() -> Sample {
         let mut o = Sample::default();
-        o.program("xdp", b"12345678").relocation(8, 3).relocation(0, NONE).section("~", b"abc").section(".bss", b"");
+        o.program("xdp", b"12345678")
+            .relocation(8, 3)
+            .relocation(0, NONE)
+            .section("~", b"abc")
+            .section(".bss", b"");
         o.records.sections[2].size = 40;
         o.records.relocations[1].size = 32;
-        o.symbol("p", 1, 0, 8, 1).symbol("d", 2, 1, 2, 2).symbol("n", NONE, 0, 0, 0).symbol("", 7, 0, 0, 0);
+        o.symbol("p", 1, 0, 8, 1)
+            .symbol("d", 2, 1, 2, 2)
+            .symbol("n", NONE, 0, 0, 0)
+            .symbol("", 7, 0, 0, 0);
         o
     }
 
@@ -257,24 +353,49 @@ mod tests {
     fn sections_and_own_tables() {
         let file = write(&sample().records);
         assert_eq!(&file[..8], b"\x7fELF\x02\x01\x01\0");
-        assert_eq!((number(&file, 16, 2), number(&file, 18, 2), number(&file, 60, 2)), (1, 247, 7));
+        assert_eq!(
+            (
+                number(&file, 16, 2),
+                number(&file, 18, 2),
+                number(&file, 60, 2)
+            ),
+            (1, 247, 7)
+        );
         assert_eq!(header(&file, 1), (b"xdp".to_vec(), 1, 6, 64, 8, 0, 0));
         assert_eq!(header(&file, 2), (b"~".to_vec(), 1, 2, 72, 3, 0, 0));
         assert_eq!(header(&file, 3), (b".bss".to_vec(), 8, 2, 75, 40, 0, 0));
         assert_eq!(&file[64..75], b"12345678abc");
         let (name, kind, _, at, size, link, info) = header(&file, 5);
-        assert_eq!((name, kind, at % 8, size, link, info), (b"~~".to_vec(), 2, 0, 5 * 24, 4, 1));
+        assert_eq!(
+            (name, kind, at % 8, size, link, info),
+            (b"~~".to_vec(), 2, 0, 5 * 24, 4, 1)
+        );
         let (name, kind, flags, at, size, link, info) = header(&file, 6);
-        assert_eq!((name, kind, flags, at % 8, size, link, info), (b"~~".to_vec(), 9, 0x40, 0, 32, 5, 1));
-        assert_eq!([0, 8, 16, 24].map(|k| number(&file, at + k, 8)), [8, 3 << 32 | 1, 0, 10]);
+        assert_eq!(
+            (name, kind, flags, at % 8, size, link, info),
+            (b"~~".to_vec(), 9, 0x40, 0, 32, 5, 1)
+        );
+        assert_eq!(
+            [0, 8, 16, 24].map(|k| number(&file, at + k, 8)),
+            [8, 3 << 32 | 1, 0, 10]
+        );
     }
 
     #[test]
     fn symbol_types_and_sections() {
         let file = write(&sample().records);
         let (_, _, _, at, ..) = header(&file, 5);
-        let symbol = |k: usize| (number(&file, at + 24 * k + 4, 1), number(&file, at + 24 * k + 6, 2), number(&file, at + 24 * k + 8, 8));
-        assert_eq!([1, 2, 3, 4].map(symbol), [(0x12, 1, 0), (0x11, 2, 1), (0x10, 0, 0), (0x10, 0xFEFF, 0)]);
+        let symbol = |k: usize| {
+            (
+                number(&file, at + 24 * k + 4, 1),
+                number(&file, at + 24 * k + 6, 2),
+                number(&file, at + 24 * k + 8, 8),
+            )
+        };
+        assert_eq!(
+            [1, 2, 3, 4].map(symbol),
+            [(0x12, 1, 0), (0x11, 2, 1), (0x10, 0, 0), (0x10, 0xFEFF, 0)]
+        );
     }
 
     #[test]

@@ -28,7 +28,10 @@ pub const PREFIXES: [(&str, Kind); 8] = [
 ];
 
 pub fn kind(name: &[u8], mark: u32, size: u64) -> Kind {
-    if let Some((_, kind)) = PREFIXES.iter().find(|(prefix, _)| name.starts_with(prefix.as_bytes())) {
+    if let Some((_, kind)) = PREFIXES
+        .iter()
+        .find(|(prefix, _)| name.starts_with(prefix.as_bytes()))
+    {
         return *kind;
     }
     match name {
@@ -141,12 +144,37 @@ mod tests {
 
     #[test]
     fn program_names_are_cut_at_slashes() {
-        for known in ["kprobe/a/b", "kprobe/", "xdp", "xdp/cpumap/x", "cgroup/sock/", "sk_skb/stream_parser/f", "tp//"] {
+        for known in [
+            "kprobe/a/b",
+            "kprobe/",
+            "xdp",
+            "xdp/cpumap/x",
+            "cgroup/sock/",
+            "sk_skb/stream_parser/f",
+            "tp//",
+        ] {
             assert!(is_program(known.as_bytes()), "{known}");
         }
-        for unknown in ["", "/", "xdp/", "xdp/x", "xdp//cpumap", "cgroup", "cgroup/", "sk_skb", "kprob", "kprobe2", "/xdp", "sk_reuseport/x"] {
+        for unknown in [
+            "",
+            "/",
+            "xdp/",
+            "xdp/x",
+            "xdp//cpumap",
+            "cgroup",
+            "cgroup/",
+            "sk_skb",
+            "kprob",
+            "kprobe2",
+            "/xdp",
+            "sk_reuseport/x",
+        ] {
             assert!(!is_program(unknown.as_bytes()), "{unknown}");
         }
-        assert!(ALONE.iter().chain(&BARE).chain(&PAIRS).all(|n| is_program(n.as_bytes())));
+        assert!(ALONE
+            .iter()
+            .chain(&BARE)
+            .chain(&PAIRS)
+            .all(|n| is_program(n.as_bytes())));
     }
 }

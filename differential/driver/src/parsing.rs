@@ -21,7 +21,10 @@ pub type Owned = HashMap<u32, u64>;
 
 /// The records must break no rule of the stream.
 pub fn parse(records: &Records) -> Result<Owned, Stop> {
-    let parser = Parser { records, symbols: by_section(records) };
+    let parser = Parser {
+        records,
+        symbols: by_section(records),
+    };
     parser.license()?;
     parser.version()?;
     let mut maps = HashMap::new();
@@ -77,14 +80,18 @@ impl<'a> Parser<'a> {
     }
 
     fn license(&self) -> Result<(), Stop> {
-        let Some(section) = self.named(b"license") else { return Ok(()) };
+        let Some(section) = self.named(b"license") else {
+            return Ok(());
+        };
         self.targets(section)?;
         let data = self.data(section);
         need(data.len() >= 2 && data.iter().position(|&b| b == 0) == Some(data.len() - 1))
     }
 
     fn version(&self) -> Result<(), Stop> {
-        let Some(section) = self.named(b"version") else { return Ok(()) };
+        let Some(section) = self.named(b"version") else {
+            return Ok(());
+        };
         self.targets(section)?;
         need(self.data(section).len() == 4)
     }
@@ -92,7 +99,10 @@ impl<'a> Parser<'a> {
     fn section(&self, section: &'a SectionRecord, maps: &mut Maps<'a>) -> Result<(), Stop> {
         self.targets(section)?;
         let name = self.name(section);
-        let symbols = self.symbols.get(&section.index).map_or(&[][..], Vec::as_slice);
+        let symbols = self
+            .symbols
+            .get(&section.index)
+            .map_or(&[][..], Vec::as_slice);
         match kind(name, section.mark, section.size) {
             Kind::Program => self.programs(section, symbols),
             Kind::Text => self.text(section, symbols),
@@ -112,7 +122,10 @@ impl<'a> Parser<'a> {
 
     fn programs(&self, section: &SectionRecord, symbols: &[&SymbolRecord]) -> Result<(), Stop> {
         need(is_program(self.name(section)) && !symbols.is_empty())?;
-        for symbol in symbols.iter().filter(|y| y.kind == TEXT && y.name.length > 0) {
+        for symbol in symbols
+            .iter()
+            .filter(|y| y.kind == TEXT && y.name.length > 0)
+        {
             self.bytes_of(section, symbol)?;
             need(section.address <= symbol.address && symbol.size % 8 == 0)?;
         }
@@ -122,14 +135,20 @@ impl<'a> Parser<'a> {
     /// A program's or map's bytes.
     fn bytes_of(&self, section: &SectionRecord, symbol: &SymbolRecord) -> Result<&'a [u8], Stop> {
         let data = self.data(section);
-        let end = symbol.address.checked_add(symbol.size).ok_or(Stop::Refused)?;
+        let end = symbol
+            .address
+            .checked_add(symbol.size)
+            .ok_or(Stop::Refused)?;
         need(end <= data.len() as u64)?;
         Ok(&data[symbol.address as usize..end as usize])
     }
 
     fn text(&self, section: &SectionRecord, symbols: &[&SymbolRecord]) -> Result<(), Stop> {
         let (mut sizes, mut twice) = (HashMap::new(), HashSet::new());
-        for symbol in symbols.iter().filter(|y| y.kind == TEXT && y.definition == 1) {
+        for symbol in symbols
+            .iter()
+            .filter(|y| y.kind == TEXT && y.definition == 1)
+        {
             if sizes.insert(symbol.address, symbol.size).is_some() {
                 twice.insert(symbol.address);
             }
@@ -150,7 +169,12 @@ impl<'a> Parser<'a> {
         Ok(())
     }
 
-    fn legacy_maps(&self, section: &SectionRecord, symbols: &[&'a SymbolRecord], maps: &mut Maps<'a>) -> Result<(), Stop> {
+    fn legacy_maps(
+        &self,
+        section: &SectionRecord,
+        symbols: &[&'a SymbolRecord],
+        maps: &mut Maps<'a>,
+    ) -> Result<(), Stop> {
         need(!symbols.is_empty())?;
         for symbol in symbols {
             let record = self.bytes_of(section, symbol)?;
@@ -186,7 +210,9 @@ mod tests {
     #[test]
     fn maps_that_own_bytes() {
         let mut o = Sample::default();
-        o.section(".data", b"first").section("maps", &[0; 28]).section(".data", b"later!");
+        o.section(".data", b"first")
+            .section("maps", &[0; 28])
+            .section(".data", b"later!");
         o.section(".bss", b"").records.sections[3].size = 9;
         o.symbol("m", 2, 0, 28, 2).symbol(".bss", 2, 0, 20, 2);
         assert_eq!(end(&o), Ok(HashMap::from([(2, 0), (3, 6), (4, 9)])));
@@ -194,9 +220,19 @@ mod tests {
 
     #[test]
     fn licences_and_versions() {
-        for (data, fits) in [(&b"a\0"[..], true), (b"\0", false), (b"a", false), (b"ab", false), (b"a\0b", false), (b"a\0\0", false), (b"\0\0", false)] {
+        for (data, fits) in [
+            (&b"a\0"[..], true),
+            (b"\0", false),
+            (b"a", false),
+            (b"ab", false),
+            (b"a\0b", false),
+            (b"a\0\0", false),
+            (b"\0\0", false),
+        ] {
             let mut o = Sample::default();
-            o.section("license2", b"").section("license", data).section("license", b"");
+            o.section("license2", b"")
+                .section("license", data)
+                .section("license", b"");
             assert_eq!(end(&o).is_ok(), fits, "{data:?}");
         }
         for (data, fits) in [(&b"abcd"[..], true), (b"abc", false), (b"abcde", false)] {
@@ -208,7 +244,12 @@ mod tests {
 
     #[test]
     fn relocations_need_targets_but_not_in_btf_ext() {
-        for (name, fits) in [(".BTF.ext", true), ("x", false), ("license2", false), (".data", false)] {
+        for (name, fits) in [
+            (".BTF.ext", true),
+            ("x", false),
+            ("license2", false),
+            (".data", false),
+        ] {
             let mut o = Sample::default();
             o.section(name, b"ab").relocation(0, NONE);
             assert_eq!(end(&o).is_ok(), fits, "{name}");
@@ -219,16 +260,26 @@ mod tests {
     fn programs() {
         let one = |address: u64, size: u64, section_address: u64| {
             let mut o = Sample::default();
-            o.program("xdp", &[0; 16]).symbol("p", 1, address, size, TEXT);
+            o.program("xdp", &[0; 16])
+                .symbol("p", 1, address, size, TEXT);
             o.records.sections[0].address = section_address;
             end(&o).is_ok()
         };
         assert!(one(0, 16, 0) && one(16, 0, 0) && one(8, 8, 8) && one(3, 8, 0));
-        assert!(!one(0, 24, 0) && !one(17, 0, 0) && !one(0, 12, 0) && !one(0, 8, 8) && !one(u64::MAX, 8, 0));
+        assert!(
+            !one(0, 24, 0)
+                && !one(17, 0, 0)
+                && !one(0, 12, 0)
+                && !one(0, 8, 8)
+                && !one(u64::MAX, 8, 0)
+        );
         let mut o = Sample::default();
         assert_eq!(end(o.program("xdp", &[0; 8])), REFUSED);
         assert!(end(o.symbol("", 1, 99, 3, TEXT).symbol("d", 1, 99, 3, 2)).is_ok());
-        assert_eq!(end(o.program("foo", &[0; 8]).symbol("p", 2, 0, 8, TEXT)), REFUSED);
+        assert_eq!(
+            end(o.program("foo", &[0; 8]).symbol("p", 2, 0, 8, TEXT)),
+            REFUSED
+        );
     }
 
     #[test]
@@ -244,11 +295,24 @@ mod tests {
         assert!(text(0, 16, &[(0, 8), (8, 8), (3, 0)]).is_ok());
         assert!(text(0, 16, &[(0, 16), (8, 1)]).is_ok());
         assert!(text(u64::MAX - 15, 16, &[(u64::MAX - 15, 8), (u64::MAX - 7, 8)]).is_ok());
-        assert_eq!(text(u64::MAX - 7, 16, &[(u64::MAX - 7, 8), (0, 8)]), REFUSED);
-        for symbols in [&[(0, 8)][..], &[(0, 0)], &[(0, 24)], &[(0, 12), (12, 4)], &[(0, 8), (8, u64::MAX)], &[(0, 16), (5, 1), (5, 1)]] {
+        assert_eq!(
+            text(u64::MAX - 7, 16, &[(u64::MAX - 7, 8), (0, 8)]),
+            REFUSED
+        );
+        for symbols in [
+            &[(0, 8)][..],
+            &[(0, 0)],
+            &[(0, 24)],
+            &[(0, 12), (12, 4)],
+            &[(0, 8), (8, u64::MAX)],
+            &[(0, 16), (5, 1), (5, 1)],
+        ] {
             assert_eq!(text(0, 16, symbols), REFUSED, "{symbols:?}");
         }
-        assert_eq!(text(0, 16, &[(0, 16), (5, 1), (5, 1), (6, 1), (6, 1)]), Err(Stop::Conflicts));
+        assert_eq!(
+            text(0, 16, &[(0, 16), (5, 1), (5, 1), (6, 1), (6, 1)]),
+            Err(Stop::Conflicts)
+        );
         assert_eq!(text(0, 16, &[(0, 16), (5, 1), (5, 1), (5, 1)]), REFUSED);
     }
 

@@ -40,7 +40,14 @@ mod tests {
     fn the_published_sequence() {
         let mut rng = Rng::new(1234567);
         let got: Vec<u64> = (0..3).map(|_| rng.next()).collect();
-        assert_eq!(got, [6457827717110365317, 3203168211198807973, 9817491932198370423]);
+        assert_eq!(
+            got,
+            [
+                6457827717110365317,
+                3203168211198807973,
+                9817491932198370423
+            ]
+        );
     }
 
     #[test]

@@ -7,12 +7,18 @@ use crate::rules::{piece, MOST_BYTES};
 
 /// Rows of numbers are counted as numbers, functions as rows.
 pub fn enough(records: &Records) -> Room {
-    let mut room = Room { bytes: b"GPL".len(), ..Default::default() };
+    let mut room = Room {
+        bytes: b"GPL".len(),
+        ..Default::default()
+    };
     for section in &records.sections {
         add_section(records, section, &mut room);
     }
     for symbol in &records.symbols {
-        if let Ok(place) = records.sections.binary_search_by_key(&symbol.section, |x| x.index) {
+        if let Ok(place) = records
+            .sections
+            .binary_search_by_key(&symbol.section, |x| x.index)
+        {
             add_symbol(records, &records.sections[place], symbol, &mut room);
         }
     }
@@ -20,15 +26,24 @@ pub fn enough(records: &Records) -> Room {
 }
 
 fn kind_of(records: &Records, section: &SectionRecord) -> Kind {
-    kind(piece(&records.names, section.name), section.mark, section.size)
+    kind(
+        piece(&records.names, section.name),
+        section.mark,
+        section.size,
+    )
 }
 
 fn add_section(records: &Records, section: &SectionRecord, room: &mut Room) {
-    let (name, data) = (piece(&records.names, section.name).len(), piece(&records.data, section.bytes).len());
+    let (name, data) = (
+        piece(&records.names, section.name).len(),
+        piece(&records.data, section.bytes).len(),
+    );
     room.sections += 4;
     room.bytes += name;
     let kind = kind_of(records, section);
-    if matches!(kind, Kind::Text | Kind::Program) && section.relocations.length as usize <= records.relocations.len() {
+    if matches!(kind, Kind::Text | Kind::Program)
+        && section.relocations.length as usize <= records.relocations.len()
+    {
         room.relocations += 4 * section.relocations.length as usize;
     }
     match kind {
@@ -36,7 +51,12 @@ fn add_section(records: &Records, section: &SectionRecord, room: &mut Room) {
         Kind::License | Kind::Text => room.bytes += data,
         Kind::Data | Kind::Rodata | Kind::Bss => {
             room.maps += 27;
-            room.bytes += name + if kind == Kind::Bss { (section.size as usize).min(MOST_BYTES) } else { data };
+            room.bytes += name
+                + if kind == Kind::Bss {
+                    (section.size as usize).min(MOST_BYTES)
+                } else {
+                    data
+                };
         }
         _ => (),
     }
@@ -57,7 +77,11 @@ fn add_symbol(records: &Records, section: &SectionRecord, symbol: &SymbolRecord,
             room.programs += 7;
             room.functions += 1;
             // a longer one is refused
-            let code = if symbol.size <= u64::from(section.bytes.length) { symbol.size as usize } else { 0 };
+            let code = if symbol.size <= u64::from(section.bytes.length) {
+                symbol.size as usize
+            } else {
+                0
+            };
             room.bytes += 2 * name + code;
         }
         _ => (),
@@ -71,21 +95,52 @@ mod tests {
 
     #[test]
     fn an_empty_object_takes_the_default_licence() {
-        assert_eq!(enough(&Records::default()), Room { bytes: 3, ..Default::default() });
+        assert_eq!(
+            enough(&Records::default()),
+            Room {
+                bytes: 3,
+                ..Default::default()
+            }
+        );
     }
 
     #[test]
     fn each_table() {
         let mut o = Sample::default();
-        o.section("license", b"MIT\0").section(".text", &[0; 16]).relocation(0, 1);
+        o.section("license", b"MIT\0")
+            .section(".text", &[0; 16])
+            .relocation(0, 1);
         o.program("xdp", &[0; 8]).relocation(0, 1).relocation(8, 1);
-        o.section(".data", b"abcd").section(".bss", b"").section("maps", &[0; 28]).section("other", b"zz").relocation(0, 1);
+        o.section(".data", b"abcd")
+            .section(".bss", b"")
+            .section("maps", &[0; 28])
+            .section("other", b"zz")
+            .relocation(0, 1);
         o.records.sections[4].size = 100;
-        o.symbol("helper", 2, 0, 16, TEXT).symbol("pass", 3, 0, 8, TEXT).symbol("m", 6, 0, 28, 2).symbol("rate", 4, 0, 4, 2);
+        o.symbol("helper", 2, 0, 16, TEXT)
+            .symbol("pass", 3, 0, 8, TEXT)
+            .symbol("m", 6, 0, 28, 2)
+            .symbol("rate", 4, 0, 4, 2);
         o.symbol("absent", 99, 0, 4, 2);
         let names = "license.textxdp.data.bssmapsother".len();
-        let bytes = 3 + 4 + names + 2 * "pass".len() + 8 + "helper".len() + 16 + ".data.bssm".len() + 4 + 100;
-        let expected = Room { sections: 28, programs: 7, functions: 2, maps: 81, relocations: 12, bytes };
+        let bytes = 3
+            + 4
+            + names
+            + 2 * "pass".len()
+            + 8
+            + "helper".len()
+            + 16
+            + ".data.bssm".len()
+            + 4
+            + 100;
+        let expected = Room {
+            sections: 28,
+            programs: 7,
+            functions: 2,
+            maps: 81,
+            relocations: 12,
+            bytes,
+        };
         assert_eq!(enough(&o.records), expected);
     }
 
@@ -95,6 +150,15 @@ mod tests {
         o.program("xdp", &[0; 8]).symbol("p", 1, 0, u64::MAX, TEXT);
         o.records.sections[0].bytes.at = u32::MAX;
         o.records.sections[0].relocations.length = u32::MAX;
-        assert_eq!(enough(&o.records), Room { sections: 4, programs: 7, functions: 1, bytes: 3 + 3 + 2, ..Default::default() });
+        assert_eq!(
+            enough(&o.records),
+            Room {
+                sections: 4,
+                programs: 7,
+                functions: 1,
+                bytes: 3 + 3 + 2,
+                ..Default::default()
+            }
+        );
     }
 }

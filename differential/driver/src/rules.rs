@@ -13,11 +13,26 @@ pub fn broken(records: &Records) -> Option<&'static str> {
         .or_else(|| fine(records.sections.len() <= MOST_SECTIONS, "sections"))
         .or_else(|| fine(records.symbols.len() <= MOST_RECORDS, "symbols"))
         .or_else(|| fine(records.relocations.len() <= MOST_RECORDS, "relocations"))
-        .or_else(|| fine(rise(records.sections.iter().map(|x| x.index)), "section indexes"))
-        .or_else(|| fine(rise(records.symbols.iter().map(|y| y.index)), "symbol indexes"))
+        .or_else(|| {
+            fine(
+                rise(records.sections.iter().map(|x| x.index)),
+                "section indexes",
+            )
+        })
+        .or_else(|| {
+            fine(
+                rise(records.symbols.iter().map(|y| y.index)),
+                "symbol indexes",
+            )
+        })
         .or_else(|| records.sections.iter().find_map(|x| section(records, x)))
         .or_else(|| records.symbols.iter().find_map(|y| symbol(records, y)))
-        .or_else(|| fine(records.relocations.iter().all(|r| r.symbol != 0), "relocation symbol"))
+        .or_else(|| {
+            fine(
+                records.relocations.iter().all(|r| r.symbol != 0),
+                "relocation symbol",
+            )
+        })
 }
 
 fn section(records: &Records, x: &SectionRecord) -> Option<&'static str> {
@@ -26,7 +41,10 @@ fn section(records: &Records, x: &SectionRecord) -> Option<&'static str> {
         (x.size <= MOST_BYTES as u64, "section size"),
         (name_fits(records, x.name), "section name"),
         (inside(x.bytes, records.data.len()), "section data"),
-        (inside(x.relocations, records.relocations.len()), "section relocations"),
+        (
+            inside(x.relocations, records.relocations.len()),
+            "section relocations",
+        ),
     ];
     rules.iter().find(|(fits, _)| !fits).map(|(_, what)| *what)
 }
@@ -57,7 +75,11 @@ fn inside(extent: Extent, length: usize) -> bool {
 }
 
 fn name_fits(records: &Records, name: Extent) -> bool {
-    name.length <= MOST_NAME && inside(name, records.names.len()) && piece(&records.names, name).iter().all(|b| (1..=127).contains(b))
+    name.length <= MOST_NAME
+        && inside(name, records.names.len())
+        && piece(&records.names, name)
+            .iter()
+            .all(|b| (1..=127).contains(b))
 }
 
 /// A range's bytes; none where it leaves the table.
@@ -75,11 +97,30 @@ mod tests {
         Records {
             order: 1,
             sections: vec![
-                SectionRecord { index: 1, name: Extent { at: 0, length: 3 }, size: 4, bytes: Extent { at: 0, length: 4 }, ..Default::default() },
-                SectionRecord { index: 5, relocations: Extent { at: 0, length: 1 }, ..Default::default() },
+                SectionRecord {
+                    index: 1,
+                    name: Extent { at: 0, length: 3 },
+                    size: 4,
+                    bytes: Extent { at: 0, length: 4 },
+                    ..Default::default()
+                },
+                SectionRecord {
+                    index: 5,
+                    relocations: Extent { at: 0, length: 1 },
+                    ..Default::default()
+                },
             ],
-            symbols: vec![SymbolRecord { index: 2, section: NONE, name: Extent { at: 3, length: 0 }, ..Default::default() }],
-            relocations: vec![RelocationRecord { offset: 0, symbol: NONE, size: 255 }],
+            symbols: vec![SymbolRecord {
+                index: 2,
+                section: NONE,
+                name: Extent { at: 3, length: 0 },
+                ..Default::default()
+            }],
+            relocations: vec![RelocationRecord {
+                offset: 0,
+                symbol: NONE,
+                size: 255,
+            }],
             names: b"xdp\0".to_vec(),
             data: vec![0; 4],
         }
@@ -106,18 +147,33 @@ mod tests {
         assert_eq!(of(|r| r.sections[1].index = 1), Some("section indexes"));
         assert_eq!(of(|r| r.symbols[0].index = 0), Some("symbol indexes"));
         assert_eq!(of(|r| r.sections[0].mark = 2), Some("section mark"));
-        assert_eq!(of(|r| r.sections[0].size = 16_777_217), Some("section size"));
+        assert_eq!(
+            of(|r| r.sections[0].size = 16_777_217),
+            Some("section size")
+        );
         assert_eq!(of(|r| r.sections[0].name.length = 4), Some("section name"));
         assert_eq!(of(|r| r.sections[0].name.length = 5), Some("section name"));
         assert_eq!(of(|r| r.names[1] = 128), Some("section name"));
         assert_eq!(of(|r| r.sections[1].bytes.at = 5), Some("section data"));
-        assert_eq!(of(|r| r.sections[0].bytes.length = u32::MAX), Some("section data"));
-        assert_eq!(of(|r| r.sections[1].relocations.at = 1), Some("section relocations"));
+        assert_eq!(
+            of(|r| r.sections[0].bytes.length = u32::MAX),
+            Some("section data")
+        );
+        assert_eq!(
+            of(|r| r.sections[1].relocations.at = 1),
+            Some("section relocations")
+        );
         assert_eq!(of(|r| r.symbols[0].section = 0), Some("symbol section"));
         assert_eq!(of(|r| r.symbols[0].name.at = 5), Some("symbol name"));
         assert_eq!(of(|r| r.symbols[0].kind = 3), Some("symbol kind"));
-        assert_eq!(of(|r| r.symbols[0].definition = 2), Some("symbol definition"));
-        assert_eq!(of(|r| r.relocations[0].symbol = 0), Some("relocation symbol"));
+        assert_eq!(
+            of(|r| r.symbols[0].definition = 2),
+            Some("symbol definition")
+        );
+        assert_eq!(
+            of(|r| r.relocations[0].symbol = 0),
+            Some("relocation symbol")
+        );
     }
 
     #[test]

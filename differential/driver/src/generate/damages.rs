@@ -8,21 +8,34 @@ use crate::rules::{piece, MOST_BYTES};
 type Break = fn(&mut Rng, &mut Records) -> bool;
 
 pub const BREAKS: [(&str, Break); 18] = [
-    ("2 byte order", |rng, r| set(&mut r.order, rng, &[2, 256, NONE])),
-    ("2 section mark", |rng, r| one(rng, &mut r.sections).is_some_and(|(x, rng)| set(&mut x.mark, rng, &[2, 3, 256, NONE]))),
+    ("2 byte order", |rng, r| {
+        set(&mut r.order, rng, &[2, 256, NONE])
+    }),
+    ("2 section mark", |rng, r| {
+        one(rng, &mut r.sections).is_some_and(|(x, rng)| set(&mut x.mark, rng, &[2, 3, 256, NONE]))
+    }),
     ("2 section size", |rng, r| {
         let most = MOST_BYTES as u64;
-        one(rng, &mut r.sections).is_some_and(|(x, rng)| set(&mut x.size, rng, &[most + 1, 2 * most, 1 << 32, u64::MAX]))
+        one(rng, &mut r.sections)
+            .is_some_and(|(x, rng)| set(&mut x.size, rng, &[most + 1, 2 * most, 1 << 32, u64::MAX]))
     }),
-    ("2 first section index 0", |_, r| r.sections.first_mut().map(|x| x.index = 0).is_some()),
-    ("2 first symbol index 0", |_, r| r.symbols.first_mut().map(|y| y.index = 0).is_some()),
+    ("2 first section index 0", |_, r| {
+        r.sections.first_mut().map(|x| x.index = 0).is_some()
+    }),
+    ("2 first symbol index 0", |_, r| {
+        r.symbols.first_mut().map(|y| y.index = 0).is_some()
+    }),
     ("2 section indexes don't rise", |rng, r| {
         let indexes: Vec<u32> = r.sections.iter().map(|x| x.index).collect();
-        fall(rng, &indexes).map(|(at, index)| r.sections[at].index = index).is_some()
+        fall(rng, &indexes)
+            .map(|(at, index)| r.sections[at].index = index)
+            .is_some()
     }),
     ("2 symbol indexes don't rise", |rng, r| {
         let indexes: Vec<u32> = r.symbols.iter().map(|y| y.index).collect();
-        fall(rng, &indexes).map(|(at, index)| r.symbols[at].index = index).is_some()
+        fall(rng, &indexes)
+            .map(|(at, index)| r.symbols[at].index = index)
+            .is_some()
     }),
     ("2 section name past the names", |rng, r| {
         let length = r.names.len();
@@ -48,14 +61,29 @@ pub const BREAKS: [(&str, Break); 18] = [
         let names: Vec<Extent> = r.symbols.iter().map(|y| y.name).collect();
         name_byte(rng, &mut r.names, &names)
     }),
-    ("2 symbol of section 0", |rng, r| one(rng, &mut r.symbols).is_some_and(|(y, rng)| set(&mut y.section, rng, &[0]))),
-    ("2 symbol kind", |rng, r| one(rng, &mut r.symbols).is_some_and(|(y, rng)| set(&mut y.kind, rng, &[3, 4, 128, 255]))),
-    ("2 symbol definition", |rng, r| one(rng, &mut r.symbols).is_some_and(|(y, rng)| set(&mut y.definition, rng, &[2, 3, 255]))),
-    ("2 relocation of symbol 0", |rng, r| one(rng, &mut r.relocations).is_some_and(|(x, rng)| set(&mut x.symbol, rng, &[0]))),
+    ("2 symbol of section 0", |rng, r| {
+        one(rng, &mut r.symbols).is_some_and(|(y, rng)| set(&mut y.section, rng, &[0]))
+    }),
+    ("2 symbol kind", |rng, r| {
+        one(rng, &mut r.symbols).is_some_and(|(y, rng)| set(&mut y.kind, rng, &[3, 4, 128, 255]))
+    }),
+    ("2 symbol definition", |rng, r| {
+        one(rng, &mut r.symbols).is_some_and(|(y, rng)| set(&mut y.definition, rng, &[2, 3, 255]))
+    }),
+    ("2 relocation of symbol 0", |rng, r| {
+        one(rng, &mut r.relocations).is_some_and(|(x, rng)| set(&mut x.symbol, rng, &[0]))
+    }),
     ("2 name table cut", |_, r| {
-        let names = r.sections.iter().map(|x| x.name).chain(r.symbols.iter().map(|y| y.name));
+        let names = r
+            .sections
+            .iter()
+            .map(|x| x.name)
+            .chain(r.symbols.iter().map(|y| y.name));
         let needed = names.map(|n| n.at as usize + n.length as usize).max();
-        needed.filter(|&n| n > 0).map(|n| r.names.truncate(n - 1)).is_some()
+        needed
+            .filter(|&n| n > 0)
+            .map(|n| r.names.truncate(n - 1))
+            .is_some()
     }),
 ];
 
@@ -77,9 +105,15 @@ fn past(extent: &mut Extent, rng: &mut Rng, table: usize) -> bool {
     let end = table as u32 + 1;
     let length = rng.below(end.min(8) as usize + 1) as u32;
     *extent = match rng.below(6) {
-        0 => Extent { at: NONE, length: *rng.pick(&[0, 1, NONE]) },
+        0 => Extent {
+            at: NONE,
+            length: *rng.pick(&[0, 1, NONE]),
+        },
         1 => Extent { at: 0, length: end },
-        _ => Extent { at: end - length, length },
+        _ => Extent {
+            at: end - length,
+            length,
+        },
     };
     true
 }
@@ -92,7 +126,10 @@ fn fall(rng: &mut Rng, indexes: &[u32]) -> Option<(usize, u32)> {
 }
 
 fn name_byte(rng: &mut Rng, table: &mut [u8], names: &[Extent]) -> bool {
-    let names: Vec<&Extent> = names.iter().filter(|n| !piece(table, **n).is_empty()).collect();
+    let names: Vec<&Extent> = names
+        .iter()
+        .filter(|n| !piece(table, **n).is_empty())
+        .collect();
     if names.is_empty() {
         return false;
     }
@@ -156,7 +193,10 @@ pub const FRAMES: [(&str, u32, Frame); 15] = [
     }),
     ("2 further block", 2, |rng, r| {
         let mut stream = stream(r);
-        stream.resize((stream.len().div_ceil(STREAM) + 1 + rng.below(2)) * STREAM, 0);
+        stream.resize(
+            (stream.len().div_ceil(STREAM) + 1 + rng.below(2)) * STREAM,
+            0,
+        );
         Some(seal(&stream))
     }),
     ("2 padding", 2, |rng, r| {
@@ -167,17 +207,34 @@ pub const FRAMES: [(&str, u32, Frame); 15] = [
         stream[at] = *rng.pick(&[1, 128]);
         Some(seal(&stream))
     }),
-    ("2 reserved byte of the head", 2, |rng, r| reserved(rng, r, 24, 8)),
+    ("2 reserved byte of the head", 2, |rng, r| {
+        reserved(rng, r, 24, 8)
+    }),
     ("2 reserved byte of a symbol", 2, |rng, r| {
         let symbol = rng.below(Some(r.symbols.len()).filter(|&n| n > 0)?);
         reserved(rng, r, places(r).symbols + SYMBOL * symbol + 34, 6)
     }),
     ("2 reserved byte of a relocation", 2, |rng, r| {
         let relocation = rng.below(Some(r.relocations.len()).filter(|&n| n > 0)?);
-        reserved(rng, r, places(r).relocations + RELOCATION * relocation + 13, 3)
+        reserved(
+            rng,
+            r,
+            places(r).relocations + RELOCATION * relocation + 13,
+            3,
+        )
     }),
     ("2 count above its limit", 2, |rng, r| {
-        let (place, count) = *rng.pick(&[(4, 4_097), (8, 65_537), (12, 65_537), (4, NONE), (8, NONE), (12, NONE), (16, NONE), (20, NONE), (16, 1 << 24)]);
+        let (place, count) = *rng.pick(&[
+            (4, 4_097),
+            (8, 65_537),
+            (12, 65_537),
+            (4, NONE),
+            (8, NONE),
+            (12, NONE),
+            (16, NONE),
+            (20, NONE),
+            (16, 1 << 24),
+        ]);
         let mut stream = stream(r);
         stream[place..place + 4].copy_from_slice(&u32::to_le_bytes(count));
         Some(seal(&stream))
@@ -229,7 +286,11 @@ mod tests {
     fn each_frame_goes_back_with_its_number() {
         let mut rng = Rng::new(3);
         for (aim, number, make) in FRAMES {
-            let made = objects().iter().filter_map(|records| make(&mut rng, records)).inspect(|deposit| assert_eq!(read(deposit), Err(number), "{aim}")).count();
+            let made = objects()
+                .iter()
+                .filter_map(|records| make(&mut rng, records))
+                .inspect(|deposit| assert_eq!(read(deposit), Err(number), "{aim}"))
+                .count();
             assert!(made > 100, "{aim} {made}");
         }
     }

@@ -1,5 +1,5 @@
 //! An object while it is put together, and its records.
-use crate::case::{Extent, RelocationRecord, Records, SectionRecord, SymbolRecord};
+use crate::case::{Extent, Records, RelocationRecord, SectionRecord, SymbolRecord};
 use crate::deposit::{self, STREAM};
 use crate::rng::Rng;
 
@@ -33,7 +33,12 @@ pub struct Symbol {
 impl Draft {
     /// A further section, its size that of its data.
     pub fn section(&mut self, name: impl AsRef<[u8]>, data: Vec<u8>) -> &mut Section {
-        self.sections.push(Section { name: name.as_ref().to_vec(), size: data.len() as u64, data, ..Default::default() });
+        self.sections.push(Section {
+            name: name.as_ref().to_vec(),
+            size: data.len() as u64,
+            data,
+            ..Default::default()
+        });
         self.last()
     }
 
@@ -47,9 +52,22 @@ impl Draft {
     }
 
     /// A further symbol of the last section, with a definition.
-    pub fn symbol(&mut self, name: impl AsRef<[u8]>, address: u64, size: u64, kind: u8) -> &mut Symbol {
+    pub fn symbol(
+        &mut self,
+        name: impl AsRef<[u8]>,
+        address: u64,
+        size: u64,
+        kind: u8,
+    ) -> &mut Symbol {
         let section = self.here();
-        self.symbols.push(Symbol { name: name.as_ref().to_vec(), section, address, size, kind, definition: 1 });
+        self.symbols.push(Symbol {
+            name: name.as_ref().to_vec(),
+            section,
+            address,
+            size,
+            kind,
+            definition: 1,
+        });
         self.symbols.last_mut().expect("one was pushed")
     }
 
@@ -63,15 +81,24 @@ impl Draft {
         let mut records = self.placed(&mut |table, piece| pack(rng, table, piece));
         if rng.chance(1, 12) {
             let end = deposit::places(&records).end;
-            records.data.resize(records.data.len() + end.next_multiple_of(STREAM) - end, 0xEE);
+            records.data.resize(
+                records.data.len() + end.next_multiple_of(STREAM) - end,
+                0xEE,
+            );
         }
         records
     }
 
     fn placed(&self, place: &mut dyn FnMut(&mut Vec<u8>, &[u8]) -> Extent) -> Records {
-        let mut records = Records { order: self.order, ..Default::default() };
+        let mut records = Records {
+            order: self.order,
+            ..Default::default()
+        };
         for (section, index) in self.sections.iter().zip(1..) {
-            let relocations = Extent { at: records.relocations.len() as u32, length: section.relocations.len() as u32 };
+            let relocations = Extent {
+                at: records.relocations.len() as u32,
+                length: section.relocations.len() as u32,
+            };
             records.relocations.extend_from_slice(&section.relocations);
             records.sections.push(SectionRecord {
                 index,
@@ -101,16 +128,25 @@ impl Draft {
 fn append(table: &mut Vec<u8>, piece: &[u8]) -> Extent {
     let at = table.len() as u32;
     table.extend(piece);
-    Extent { at, length: piece.len() as u32 }
+    Extent {
+        at,
+        length: piece.len() as u32,
+    }
 }
 
 fn pack(rng: &mut Rng, table: &mut Vec<u8>, piece: &[u8]) -> Extent {
     if piece.is_empty() {
-        return Extent { at: rng.below(table.len() + 1) as u32, length: 0 };
+        return Extent {
+            at: rng.below(table.len() + 1) as u32,
+            length: 0,
+        };
     }
     if piece.len() <= 32 && table.len() <= 1024 && rng.chance(1, 3) {
         if let Some(at) = table.windows(piece.len()).position(|part| part == piece) {
-            return Extent { at: at as u32, length: piece.len() as u32 };
+            return Extent {
+                at: at as u32,
+                length: piece.len() as u32,
+            };
         }
     }
     if rng.chance(1, 16) {
@@ -127,7 +163,11 @@ mod tests {
     fn draft() -> Draft {
         let mut draft = Draft::default();
         draft.section("xdp", vec![1, 2, 3]).mark = 1;
-        draft.last().relocations = vec![RelocationRecord { offset: 1, symbol: 1, size: 0 }];
+        draft.last().relocations = vec![RelocationRecord {
+            offset: 1,
+            symbol: 1,
+            size: 0,
+        }];
         draft.section("", vec![]);
         draft.symbol("dp", 4, 5, 1);
         draft.symbol("", 6, 7, 2).section = 1;
@@ -136,14 +176,39 @@ mod tests {
 
     fn says_the_draft(records: &Records) {
         assert_eq!(broken(records), None);
-        let names: Vec<&[u8]> = records.sections.iter().map(|x| piece(&records.names, x.name)).collect();
+        let names: Vec<&[u8]> = records
+            .sections
+            .iter()
+            .map(|x| piece(&records.names, x.name))
+            .collect();
         assert_eq!(names, [&b"xdp"[..], b""]);
         assert_eq!(piece(&records.data, records.sections[0].bytes), [1, 2, 3]);
-        assert_eq!((records.sections[0].index, records.sections[0].mark, records.sections[0].size), (1, 1, 3));
+        assert_eq!(
+            (
+                records.sections[0].index,
+                records.sections[0].mark,
+                records.sections[0].size
+            ),
+            (1, 1, 3)
+        );
         assert_eq!(records.sections[0].relocations, Extent { at: 0, length: 1 });
         let y = &records.symbols[0];
-        assert_eq!((y.index, y.section, piece(&records.names, y.name), y.address, y.size, y.kind, y.definition), (1, 2, &b"dp"[..], 4, 5, 1, 1));
-        assert_eq!((records.symbols[1].index, records.symbols[1].section), (2, 1));
+        assert_eq!(
+            (
+                y.index,
+                y.section,
+                piece(&records.names, y.name),
+                y.address,
+                y.size,
+                y.kind,
+                y.definition
+            ),
+            (1, 2, &b"dp"[..], 4, 5, 1, 1)
+        );
+        assert_eq!(
+            (records.symbols[1].index, records.symbols[1].section),
+            (2, 1)
+        );
     }
 
     #[test]

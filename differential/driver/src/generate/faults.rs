@@ -3,7 +3,9 @@ use crate::case::{RelocationRecord, NONE};
 use crate::rng::Rng;
 
 use super::draft::Draft;
-use super::sections::{any, legacy_maps, map_record, program, relocation, relocations, text, DATA, OTHER, TEXT, TOP};
+use super::sections::{
+    any, legacy_maps, map_record, program, relocation, relocations, text, DATA, OTHER, TEXT, TOP,
+};
 use super::words::{bytes, code, program_name, symbol_name, unknown_program_name};
 
 pub struct Fault {
@@ -19,26 +21,54 @@ const fn fault(number: u32, aim: &'static str, make: fn(&mut Rng, &mut Draft)) -
 pub const FAULTS: [Fault; 27] = [
     fault(3, "3 section .BTF", btf),
     fault(4, "4 relocation without symbol", no_target),
-    fault(5, "5 licence too short", |rng, draft| license(rng, draft, &[b"", b"\0", b"a"])),
-    fault(5, "5 licence with a zero inside", |rng, draft| license(rng, draft, &[b"a\0b", b"\0\0", b"a\0\0", b"GPL\0MIT\0"])),
-    fault(6, "6 licence without a zero", |rng, draft| license(rng, draft, &[b"GPL", b"ab", b"a licence without its end"])),
+    fault(5, "5 licence too short", |rng, draft| {
+        license(rng, draft, &[b"", b"\0", b"a"])
+    }),
+    fault(5, "5 licence with a zero inside", |rng, draft| {
+        license(rng, draft, &[b"a\0b", b"\0\0", b"a\0\0", b"GPL\0MIT\0"])
+    }),
+    fault(6, "6 licence without a zero", |rng, draft| {
+        license(rng, draft, &[b"GPL", b"ab", b"a licence without its end"])
+    }),
     fault(7, "7 version not of 4 bytes", version),
     fault(8, "8 program section's name", unknown_program),
     fault(9, "9 program section without symbol", no_program_symbol),
     fault(9, "9 maps section without symbol", no_map_symbol),
-    fault(10, "10 map past the data", |rng, draft| long_map(rng, draft, false)),
-    fault(10, "10 map past 2^64", |rng, draft| long_map(rng, draft, true)),
-    fault(10, "10 program past the data", |rng, draft| long_program(rng, draft, false)),
-    fault(10, "10 program past 2^64", |rng, draft| long_program(rng, draft, true)),
+    fault(10, "10 map past the data", |rng, draft| {
+        long_map(rng, draft, false)
+    }),
+    fault(10, "10 map past 2^64", |rng, draft| {
+        long_map(rng, draft, true)
+    }),
+    fault(10, "10 program past the data", |rng, draft| {
+        long_program(rng, draft, false)
+    }),
+    fault(10, "10 program past 2^64", |rng, draft| {
+        long_program(rng, draft, true)
+    }),
     fault(10, "10 program below its section", low_program),
-    fault(11, "11 text address twice", |rng, draft| conflict(rng, draft, 1)),
-    fault(11, "11 several text addresses twice", |rng, draft| conflict(rng, draft, 2)),
+    fault(11, "11 text address twice", |rng, draft| {
+        conflict(rng, draft, 1)
+    }),
+    fault(11, "11 several text addresses twice", |rng, draft| {
+        conflict(rng, draft, 2)
+    }),
     fault(12, "12 gap in a text", gap),
     fault(12, "12 text past 2^64", past_top),
-    fault(12, "12 only other symbols at a text address", no_text_symbol),
-    fault(13, "13 text symbol of size 0", |rng, draft| last_function(rng, draft, &[0])),
-    fault(14, "14 function past the text", |rng, draft| last_function(rng, draft, &[9, 16, 17, 1 << 40, TOP, TOP - 7])),
-    fault(15, "15 text function's length", |rng, draft| last_function(rng, draft, &[1, 4, 7])),
+    fault(
+        12,
+        "12 only other symbols at a text address",
+        no_text_symbol,
+    ),
+    fault(13, "13 text symbol of size 0", |rng, draft| {
+        last_function(rng, draft, &[0])
+    }),
+    fault(14, "14 function past the text", |rng, draft| {
+        last_function(rng, draft, &[9, 16, 17, 1 << 40, TOP, TOP - 7])
+    }),
+    fault(15, "15 text function's length", |rng, draft| {
+        last_function(rng, draft, &[1, 4, 7])
+    }),
     fault(15, "15 program's length", odd_program),
     fault(16, "16 map record under 20 bytes", short_record),
     fault(16, "16 pinning", pinning),
@@ -61,7 +91,10 @@ fn no_target(rng: &mut Rng, draft: &mut Draft) {
 }
 
 fn without_target(rng: &mut Rng, draft: &mut Draft) {
-    let none = RelocationRecord { symbol: NONE, ..relocation(rng) };
+    let none = RelocationRecord {
+        symbol: NONE,
+        ..relocation(rng)
+    };
     let at = rng.below(draft.last().relocations.len() + 1);
     draft.last().relocations.insert(at, none);
 }
@@ -73,7 +106,9 @@ fn no_target_of_a_fault(rng: &mut Rng, draft: &mut Draft) {
 }
 
 fn license(rng: &mut Rng, draft: &mut Draft, texts: &[&[u8]]) {
-    draft.section("license", rng.pick(texts).to_vec()).relocations = relocations(rng);
+    draft
+        .section("license", rng.pick(texts).to_vec())
+        .relocations = relocations(rng);
 }
 
 fn version(rng: &mut Rng, draft: &mut Draft) {
@@ -94,27 +129,61 @@ fn no_program_symbol(rng: &mut Rng, draft: &mut Draft) {
 
 fn no_map_symbol(rng: &mut Rng, draft: &mut Draft) {
     let length = *rng.pick(&[0, 20, 28]);
-    draft.section(rng.pick(&["maps", "maps2"]), map_record(rng, length)).mark = rng.below(2) as u32;
+    draft
+        .section(rng.pick(&["maps", "maps2"]), map_record(rng, length))
+        .mark = rng.below(2) as u32;
 }
 
 fn long_map(rng: &mut Rng, draft: &mut Draft, past_top: bool) {
     legacy_maps(rng, draft);
     let length = draft.last().size;
     let (address, size) = if past_top {
-        *rng.pick(&[(TOP, 20), (TOP - 19, 20), (20, TOP), (TOP, TOP), (TOP - 19, 40)])
+        *rng.pick(&[
+            (TOP, 20),
+            (TOP - 19, 20),
+            (20, TOP),
+            (TOP, TOP),
+            (TOP - 19, 40),
+        ])
     } else {
-        *rng.pick(&[(0, length + 1), (length - 19, 20), (length, 28), (length + 1, 0), (TOP, 0), (1, length)])
+        *rng.pick(&[
+            (0, length + 1),
+            (length - 19, 20),
+            (length, 28),
+            (length + 1, 0),
+            (TOP, 0),
+            (1, length),
+        ])
     };
-    draft.symbol(symbol_name(rng), address, size, *rng.pick(&[DATA, OTHER, TEXT]));
+    draft.symbol(
+        symbol_name(rng),
+        address,
+        size,
+        *rng.pick(&[DATA, OTHER, TEXT]),
+    );
 }
 
 fn long_program(rng: &mut Rng, draft: &mut Draft, past_top: bool) {
     program(rng, draft);
     let length = draft.last().size;
     let (address, size) = if past_top {
-        *rng.pick(&[(TOP, 8), (TOP - 7, 8), (TOP - 7, 16), (length, TOP), (8, TOP - 7), (TOP, TOP)])
+        *rng.pick(&[
+            (TOP, 8),
+            (TOP - 7, 8),
+            (TOP - 7, 16),
+            (length, TOP),
+            (8, TOP - 7),
+            (TOP, TOP),
+        ])
     } else {
-        *rng.pick(&[(length, 8), (length, 1), (length - 7, 8), (length + 1, 0), (length + 8, 0), (TOP, 0)])
+        *rng.pick(&[
+            (length, 8),
+            (length, 1),
+            (length - 7, 8),
+            (length + 1, 0),
+            (length + 8, 0),
+            (TOP, 0),
+        ])
     };
     draft.symbol("p", address, size, TEXT);
 }
@@ -124,7 +193,12 @@ fn low_program(rng: &mut Rng, draft: &mut Draft) {
     let length = draft.last().size;
     draft.last().address = *rng.pick(&[8, length, length + 1, 1 << 40, TOP]);
     let below = draft.last().address - 1;
-    draft.symbol("p", *rng.pick(&[0, below.min(length)]), *rng.pick(&[0, 8, 3]), TEXT);
+    draft.symbol(
+        "p",
+        *rng.pick(&[0, below.min(length)]),
+        *rng.pick(&[0, 8, 3]),
+        TEXT,
+    );
 }
 
 /// So many further addresses of a text that two symbols share, in the text, past it or at one of its functions.
@@ -132,7 +206,9 @@ fn conflict(rng: &mut Rng, draft: &mut Draft, addresses: u64) {
     text(rng, draft);
     let (start, length) = (draft.last().address, draft.last().size);
     for k in 0..addresses {
-        let address = start.wrapping_add(*rng.pick(&[0, 1, 8, length])).wrapping_add(2 * k);
+        let address = start
+            .wrapping_add(*rng.pick(&[0, 1, 8, length]))
+            .wrapping_add(2 * k);
         for _ in 0..2 + rng.below(2) {
             draft.symbol(symbol_name(rng), address, 8, TEXT);
         }
@@ -142,7 +218,9 @@ fn conflict(rng: &mut Rng, draft: &mut Draft, addresses: u64) {
 /// A text of two functions, the second as it is asked for.
 fn two_functions(rng: &mut Rng, draft: &mut Draft, second: (u64, u64)) {
     let address = *rng.pick(&[0, 0, 8, 4096, 1 << 40]);
-    draft.section(rng.pick(&[".text", ".text2"]), code(rng, 3)).address = address;
+    draft
+        .section(rng.pick(&[".text", ".text2"]), code(rng, 3))
+        .address = address;
     draft.last().relocations = relocations(rng);
     draft.symbol(symbol_name(rng), address, 16, TEXT);
     draft.symbol(symbol_name(rng), address + second.0, second.1, TEXT);
@@ -206,7 +284,12 @@ fn pinning(rng: &mut Rng, draft: &mut Draft) {
 
 fn btf_maps(rng: &mut Rng, draft: &mut Draft) {
     let length = *rng.pick(&[0, 28]);
-    draft.section(rng.pick(&[".maps", ".maps2", ".maps.x"]), map_record(rng, length)).mark = rng.below(2) as u32;
+    draft
+        .section(
+            rng.pick(&[".maps", ".maps2", ".maps.x"]),
+            map_record(rng, length),
+        )
+        .mark = rng.below(2) as u32;
     if rng.chance(1, 2) {
         draft.symbol(symbol_name(rng), 0, 28, DATA);
     }
@@ -239,7 +322,10 @@ mod tests {
     fn what_is_outside_the_domain() {
         let mut rng = Rng::new(2);
         let mut stops = |aim: &str| {
-            let fault = FAULTS.iter().find(|f| f.aim == aim).expect("there is this fault");
+            let fault = FAULTS
+                .iter()
+                .find(|f| f.aim == aim)
+                .expect("there is this fault");
             let mut draft = Draft::default();
             (fault.make)(&mut rng, &mut draft);
             parse(&draft.records())
@@ -247,7 +333,10 @@ mod tests {
         for _ in 0..100 {
             assert_eq!(stops("16 pinning"), Err(Stop::Pinning));
             assert_eq!(stops("11 text address twice"), Err(Stop::Refused));
-            assert_eq!(stops("11 several text addresses twice"), Err(Stop::Conflicts));
+            assert_eq!(
+                stops("11 several text addresses twice"),
+                Err(Stop::Conflicts)
+            );
         }
     }
 }

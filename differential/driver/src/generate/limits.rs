@@ -19,9 +19,15 @@ pub fn limits() -> Vec<Case> {
         out.push(of("limit: program name", program_name(&name)));
         out.push(patched_name(&name));
         out.push(of("limit: sections", sections(MOST_SECTIONS + past)));
-        out.push(of("limit: text symbols", text_symbols(&mut rng, MOST_RECORDS + past)));
+        out.push(of(
+            "limit: text symbols",
+            text_symbols(&mut rng, MOST_RECORDS + past),
+        ));
         out.push(of("limit: map symbols", map_symbols(MOST_RECORDS + past)));
-        out.push(of("limit: relocations", relocations(&mut rng, MOST_RECORDS + past)));
+        out.push(of(
+            "limit: relocations",
+            relocations(&mut rng, MOST_RECORDS + past),
+        ));
         out.push(of("limit: section size", sized(".bss", MOST_BYTES + past)));
         out.push(of("limit: section size", sized(".data", MOST_BYTES + past)));
         out.push(of("limit: section size", sized("other", MOST_BYTES + past)));
@@ -52,8 +58,21 @@ fn patched_name(name: &[u8]) -> Case {
     let mut draft = Draft::default();
     draft.section(".data", b"0123".to_vec());
     draft.symbol(name, 1, 2, DATA);
-    let (entries, patches) = lend(&[Patch { name: name.to_vec(), data: b"ab".to_vec(), must_exist: true }]);
-    super::of_records("limit: patched name", draft.records(), Lent { aim: "", entries, patches }, false)
+    let (entries, patches) = lend(&[Patch {
+        name: name.to_vec(),
+        data: b"ab".to_vec(),
+        must_exist: true,
+    }]);
+    super::of_records(
+        "limit: patched name",
+        draft.records(),
+        Lent {
+            aim: "",
+            entries,
+            patches,
+        },
+        false,
+    )
 }
 
 fn sections(count: usize) -> Records {
@@ -62,7 +81,9 @@ fn sections(count: usize) -> Records {
         match k % 3 {
             0 => drop(draft.section(format!(".data.{k}"), vec![k as u8])),
             1 => {
-                draft.section(format!("tp/{k}"), vec![0x95, 0, 0, 0, 0, 0, 0, 0]).mark = 1;
+                draft
+                    .section(format!("tp/{k}"), vec![0x95, 0, 0, 0, 0, 0, 0, 0])
+                    .mark = 1;
                 draft.symbol(format!("p{}", k / 6), 0, 8, TEXT);
             }
             _ => drop(draft.section("again", vec![])),
@@ -82,10 +103,18 @@ fn text_symbols(rng: &mut Rng, count: usize) -> Records {
 }
 
 fn map_symbols(count: usize) -> Records {
-    let mut draft = Draft { order: 1, ..Default::default() };
+    let mut draft = Draft {
+        order: 1,
+        ..Default::default()
+    };
     draft.section("maps", vec![1; 24]);
     for k in 0..count {
-        draft.symbol(format!("m{:04x}", (k * 40_503) & 0xFFFF), k as u64 % 5, 20, DATA);
+        draft.symbol(
+            format!("m{:04x}", (k * 40_503) & 0xFFFF),
+            k as u64 % 5,
+            20,
+            DATA,
+        );
     }
     draft.records()
 }
@@ -114,9 +143,12 @@ fn whole_deposit(more: usize) -> Records {
     draft.symbol("v", 0, 8, DATA);
     let mut records = draft.records();
     let length = MOST_BYTES / 512 * STREAM - places(&records).end + more;
-    records.data = (0..length).map(|k| (k * 31 >> 3) as u8).collect();
+    records.data = (0..length).map(|k| (k * 31 / 8) as u8).collect();
     records.sections[0].size = length as u64;
-    records.sections[0].bytes = Extent { at: 0, length: length as u32 };
+    records.sections[0].bytes = Extent {
+        at: 0,
+        length: length as u32,
+    };
     records
 }
 
@@ -138,6 +170,8 @@ mod tests {
             assert_eq!(case.judge, known(number, 0), "{}", case.aim);
         }
         assert!(at.iter().any(|case| case.deposit.len() == 16_777_216));
-        assert!(past.iter().any(|case| case.deposit.len() == 16_777_216 + 512));
+        assert!(past
+            .iter()
+            .any(|case| case.deposit.len() == 16_777_216 + 512));
     }
 }

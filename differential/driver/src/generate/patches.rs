@@ -34,7 +34,13 @@ fn bearers(draft: &Draft) -> Bearers<'_> {
     for symbol in &draft.symbols {
         *names.entry(symbol.name.as_slice()).or_insert(0) += 1;
     }
-    let mut out = Bearers { sound: vec![], several: vec![], no_map: vec![], outside: vec![], names };
+    let mut out = Bearers {
+        sound: vec![],
+        several: vec![],
+        no_map: vec![],
+        outside: vec![],
+        names,
+    };
     for symbol in draft.symbols.iter().filter(|y| y.size <= 64) {
         if out.names[symbol.name.as_slice()] > 1 {
             out.several.push(symbol);
@@ -42,7 +48,14 @@ fn bearers(draft: &Draft) -> Bearers<'_> {
         }
         match own_bytes(draft, symbol.section) {
             None => out.no_map.push(symbol),
-            Some(own) if symbol.address.checked_add(symbol.size).is_some_and(|end| end <= own) => out.sound.push(symbol),
+            Some(own)
+                if symbol
+                    .address
+                    .checked_add(symbol.size)
+                    .is_some_and(|end| end <= own) =>
+            {
+                out.sound.push(symbol)
+            }
             Some(_) => out.outside.push(symbol),
         }
     }
@@ -64,13 +77,23 @@ type Make = fn(&mut Rng, &Bearers) -> Option<Patch>;
 
 const FAULTY: [(&str, Make); 6] = [
     ("19 several bearers", |rng, all| patch_of(rng, &all.several)),
-    ("20 must exist", |rng, all| Some(Patch { must_exist: true, ..unknown(rng, all) })),
+    ("20 must exist", |rng, all| {
+        Some(Patch {
+            must_exist: true,
+            ..unknown(rng, all)
+        })
+    }),
     ("21 data of another size", other_size),
     ("22 no map", |rng, all| patch_of(rng, &all.no_map)),
-    ("23 past the map's bytes", |rng, all| patch_of(rng, &all.outside)),
+    ("23 past the map's bytes", |rng, all| {
+        patch_of(rng, &all.outside)
+    }),
     ("21 to 23 of any symbol", |rng, all| {
         let symbols = [all.no_map.as_slice(), &all.outside, &all.sound].concat();
-        patch_of(rng, &symbols).map(|patch| Patch { data: patch.data[..patch.data.len() / 2].to_vec(), ..patch })
+        patch_of(rng, &symbols).map(|patch| Patch {
+            data: patch.data[..patch.data.len() / 2].to_vec(),
+            ..patch
+        })
     }),
 ];
 
@@ -79,7 +102,11 @@ fn patch_of(rng: &mut Rng, symbols: &[&Symbol]) -> Option<Patch> {
         return None;
     }
     let symbol = rng.pick(symbols);
-    Some(Patch { name: symbol.name.clone(), data: bytes(rng, symbol.size as usize), must_exist: rng.chance(1, 2) })
+    Some(Patch {
+        name: symbol.name.clone(),
+        data: bytes(rng, symbol.size as usize),
+        must_exist: rng.chance(1, 2),
+    })
 }
 
 fn other_size(rng: &mut Rng, all: &Bearers) -> Option<Patch> {
@@ -96,16 +123,20 @@ fn other_size(rng: &mut Rng, all: &Bearers) -> Option<Patch> {
 fn unknown(rng: &mut Rng, all: &Bearers) -> Patch {
     loop {
         let mut name = patch_of(rng, &all.sound).map_or(b"unknown".to_vec(), |patch| patch.name);
-        match rng.below(8) {
-            0..=3 => name.push(*rng.pick(b"x\0\x01")),
-            4 => drop(name.pop()),
-            5 => name.clear(),
-            6 => name = "ü".as_bytes().to_vec(),
-            _ => name.push(*rng.pick(b"\xFF\x80y")),
+        match rng.below(32) {
+            0..=19 => name.push(*rng.pick(b"x\0\x01")),
+            20..=24 => drop(name.pop()),
+            25..=28 => name.clear(),
+            29 | 30 => name = "ü".as_bytes().to_vec(),
+            _ => name.push(*rng.pick(b"\xFF\x80")),
         }
         if !all.names.contains_key(name.as_slice()) {
             let length = rng.below(4);
-            return Patch { name, data: bytes(rng, length), must_exist: false };
+            return Patch {
+                name,
+                data: bytes(rng, length),
+                must_exist: false,
+            };
         }
     }
 }
@@ -121,9 +152,14 @@ fn sound(rng: &mut Rng, all: &Bearers) -> Vec<Patch> {
         }
         let symbol = left[rng.below(left.len())];
         list.extend(patch_of(rng, &[symbol]));
-        if !rng.chance(1, 12) {
-            left.retain(|other| other.name != symbol.name && !overlap(symbol, other));
-        }
+        let (again, over) = (rng.chance(1, 24), rng.chance(1, 6));
+        left.retain(|other| {
+            if other.name == symbol.name {
+                again
+            } else {
+                over || !overlap(symbol, other)
+            }
+        });
     }
     list
 }
@@ -153,7 +189,11 @@ pub fn draw(rng: &mut Rng, draft: &Draft) -> Lent {
     if rng.chance(1, 16) {
         aim = damage(rng, &mut entries, patches.len() as u64);
     }
-    Lent { aim, entries, patches }
+    Lent {
+        aim,
+        entries,
+        patches,
+    }
 }
 
 /// The list over a buffer whose pieces may share bytes.
@@ -190,11 +230,19 @@ fn damage(rng: &mut Rng, entries: &mut Vec<u64>, length: u64) -> &'static str {
             "18 place past the buffer"
         }
         1 => {
-            (entries[range], entries[range + 1]) = *rng.pick(&[(length + 1, 0), (length, 1), (0, length + 1)]);
+            (entries[range], entries[range + 1]) =
+                *rng.pick(&[(length + 1, 0), (length, 1), (0, length + 1)]);
             "18 range past the buffer"
         }
         2 => {
-            (entries[range], entries[range + 1]) = *rng.pick(&[(u64::MAX, 1), (u64::MAX, 0), (1, u64::MAX), (u64::MAX, u64::MAX), (u64::MAX - 3, 8), (1 << 32, 0)]);
+            (entries[range], entries[range + 1]) = *rng.pick(&[
+                (u64::MAX, 1),
+                (u64::MAX, 0),
+                (1, u64::MAX),
+                (u64::MAX, u64::MAX),
+                (u64::MAX - 3, 8),
+                (1 << 32, 0),
+            ]);
             "18 range far away"
         }
         3 => {
@@ -240,14 +288,30 @@ mod tests {
                 match *aim {
                     "19 several bearers" => assert_eq!(judged, known(19, 1)),
                     _ if std::str::from_utf8(&patch.name).is_err() => (),
-                    _ => assert!(comparable(&records, &[patch, Patch { must_exist: true, ..missing() }]).is_err(), "{aim}"),
+                    _ => assert!(
+                        comparable(
+                            &records,
+                            &[
+                                patch,
+                                Patch {
+                                    must_exist: true,
+                                    ..missing()
+                                }
+                            ]
+                        )
+                        .is_err(),
+                        "{aim}"
+                    ),
                 }
             }
         }
     }
 
     fn missing() -> Patch {
-        Patch { name: b"missing".to_vec(), ..Default::default() }
+        Patch {
+            name: b"missing".to_vec(),
+            ..Default::default()
+        }
     }
 
     #[test]
@@ -270,14 +334,24 @@ mod tests {
     fn damaged_entries_are_18() {
         let mut rng = Rng::new(3);
         let records = draft().records();
-        let a = Patch { name: b"a".to_vec(), data: vec![1; 4], must_exist: true };
-        let b = Patch { name: b"b".to_vec(), ..a.clone() };
+        let a = Patch {
+            name: b"a".to_vec(),
+            data: vec![1; 4],
+            must_exist: true,
+        };
+        let b = Patch {
+            name: b"b".to_vec(),
+            ..a.clone()
+        };
         for _ in 0..1000 {
             let (mut entries, patches) = lend(&[a.clone(), b.clone()]);
             let aim = damage(&mut rng, &mut entries, patches.len() as u64);
             assert!(aim.starts_with("18"));
             assert_eq!(listed(&entries, &patches), None, "{aim}");
-            assert!(matches!(judge(&records, &entries, &patches), crate::case::Judge::Known(refusal) if refusal.number == 18), "{aim}");
+            assert!(
+                matches!(judge(&records, &entries, &patches), crate::case::Judge::Known(refusal) if refusal.number == 18),
+                "{aim}"
+            );
         }
     }
 }

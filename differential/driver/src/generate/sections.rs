@@ -28,7 +28,9 @@ pub fn any(rng: &mut Rng, draft: &mut Draft) {
 }
 
 pub fn relocations(rng: &mut Rng) -> Vec<RelocationRecord> {
-    (0..*rng.pick(&[0, 0, 0, 1, 2, 5])).map(|_| relocation(rng)).collect()
+    (0..*rng.pick(&[0, 0, 0, 1, 2, 5]))
+        .map(|_| relocation(rng))
+        .collect()
 }
 
 pub fn relocation(rng: &mut Rng) -> RelocationRecord {
@@ -37,9 +39,21 @@ pub fn relocation(rng: &mut Rng) -> RelocationRecord {
         1 => rng.next(),
         _ => 8 * rng.below(6) as u64,
     };
-    let symbol = if rng.chance(1, 20) { *rng.pick(&[NONE - 1, 65_537, 1 << 31]) } else { 1 + rng.below(9) as u32 };
-    let size = if rng.chance(1, 150) { *rng.pick(&[1, 8, 16, 63, 255]) } else { *rng.pick(&[64, 32, 0]) };
-    RelocationRecord { offset, symbol, size }
+    let symbol = if rng.chance(1, 20) {
+        *rng.pick(&[NONE - 1, 65_537, 1 << 31])
+    } else {
+        1 + rng.below(9) as u32
+    };
+    let size = if rng.chance(1, 150) {
+        *rng.pick(&[1, 8, 16, 63, 255])
+    } else {
+        *rng.pick(&[64, 32, 0])
+    };
+    RelocationRecord {
+        offset,
+        symbol,
+        size,
+    }
 }
 
 /// An address of a section whose bytes don't depend on it.
@@ -51,19 +65,38 @@ fn first_named(draft: &Draft, name: &[u8]) -> bool {
     draft.sections.iter().all(|x| x.name != name)
 }
 
-const LICENSES: [&[u8]; 6] = [b"GPL\0", b"Dual MIT/GPL\0", b"a\0", b"\x80\xFF\x01\0", b"GPL v2\0", b"license of more than sixteen bytes\0"];
+const LICENSES: [&[u8]; 6] = [
+    b"GPL\0",
+    b"Dual MIT/GPL\0",
+    b"a\0",
+    b"\x80\xFF\x01\0",
+    b"GPL v2\0",
+    b"license of more than sixteen bytes\0",
+];
 
 pub fn license(rng: &mut Rng, draft: &mut Draft) {
     let name = *rng.pick(&["license", "license", "license", "license2", "license/x"]);
     let named_so = first_named(draft, name.as_bytes());
-    let text = if name == "license" && named_so { rng.pick(&LICENSES).to_vec() } else { rng.pick(&[&b""[..], b"x", b"GPL", b"a\0b"]).to_vec() };
+    let text = if name == "license" && named_so {
+        rng.pick(&LICENSES).to_vec()
+    } else {
+        rng.pick(&[&b""[..], b"x", b"GPL", b"a\0b"]).to_vec()
+    };
     draft.section(name, text).mark = u32::from(rng.chance(1, 8));
     draft.last().relocations = relocations(rng);
 }
 
 pub fn version(rng: &mut Rng, draft: &mut Draft) {
     let name = *rng.pick(&["version", "version", "version", "version2", "version.x"]);
-    let number: u32 = *rng.pick(&[0xFFFF_FFFE, 0xFEFF_FFFF, 0, 1, 0xFFFF_FFFF, 0xFFFF_FFFD, 0x0102_0304]);
+    let number: u32 = *rng.pick(&[
+        0xFFFF_FFFE,
+        0xFEFF_FFFF,
+        0,
+        1,
+        0xFFFF_FFFF,
+        0xFFFF_FFFD,
+        0x0102_0304,
+    ]);
     let mut data = number.to_le_bytes().to_vec();
     if !(name == "version" && first_named(draft, b"version")) {
         data.truncate(rng.below(5));
@@ -75,7 +108,11 @@ pub fn version(rng: &mut Rng, draft: &mut Draft) {
 pub fn map_record(rng: &mut Rng, length: usize) -> Vec<u8> {
     let mut out = Vec::new();
     for _ in 0..6 {
-        let word = if rng.chance(1, 6) { rng.next() as u32 } else { rng.below(70) as u32 };
+        let word = if rng.chance(1, 6) {
+            rng.next() as u32
+        } else {
+            rng.below(70) as u32
+        };
         out.extend(word.to_le_bytes());
     }
     out.extend([rng.below(2) as u8, 0, 0, 0]);
@@ -85,7 +122,12 @@ pub fn map_record(rng: &mut Rng, length: usize) -> Vec<u8> {
 }
 
 pub fn legacy_maps(rng: &mut Rng, draft: &mut Draft) {
-    draft.section(rng.pick(&["maps", "maps", "maps", "maps2", "maps/x"]), Vec::new()).address = free_address(rng);
+    draft
+        .section(
+            rng.pick(&["maps", "maps", "maps", "maps2", "maps/x"]),
+            Vec::new(),
+        )
+        .address = free_address(rng);
     for _ in 0..=rng.below(3) {
         let length = *rng.pick(&[20, 21, 24, 25, 27, 28, 28, 28, 28, 29, 40]);
         let at = draft.last().data.len() as u64;
@@ -106,7 +148,11 @@ pub fn legacy_maps(rng: &mut Rng, draft: &mut Draft) {
 fn named(rng: &mut Rng, draft: &mut Draft, address: u64, size: u64) {
     let kind = *rng.pick(&[DATA, DATA, DATA, OTHER, TEXT]);
     let symbol = draft.symbol(symbol_name(rng), address, size, kind);
-    symbol.definition = u8::from(if kind == TEXT { !rng.chance(1, 60) } else { rng.chance(3, 4) });
+    symbol.definition = u8::from(if kind == TEXT {
+        !rng.chance(1, 60)
+    } else {
+        rng.chance(3, 4)
+    });
 }
 
 /// The size is that of the data, and relocations are added.
@@ -125,14 +171,18 @@ pub fn text(rng: &mut Rng, draft: &mut Draft) {
         2 => rng.next() >> 1,
         _ => 0,
     };
-    draft.section(rng.pick(&[".text", ".text", ".text", ".text2", ".text.x"]), code(rng, slots));
+    draft.section(
+        rng.pick(&[".text", ".text", ".text", ".text2", ".text.x"]),
+        code(rng, slots),
+    );
     finish(rng, draft);
-    draft.last().address = address;
     if slots > 0 && rng.chance(1, 20) {
-        // the one function may pass 2^64
-        draft.last().address = TOP - rng.below(8) as u64;
-        draft.symbol(symbol_name(rng), draft.sections[draft.sections.len() - 1].address, 8 * slots as u64, TEXT);
+        // a function may pass 2^64 where none follows it
+        let address = TOP - rng.below(8) as u64;
+        draft.last().address = address;
+        draft.symbol(symbol_name(rng), address, 8 * slots as u64, TEXT);
     } else {
+        draft.last().address = address;
         tile(rng, draft, address, slots);
     }
     for _ in 0..*rng.pick(&[0, 0, 0, 1, 2]) {
@@ -145,7 +195,12 @@ fn tile(rng: &mut Rng, draft: &mut Draft, address: u64, slots: usize) {
     let mut at = 0;
     while at < slots {
         let size = 1 + rng.below((slots - at).min(4));
-        draft.symbol(symbol_name(rng), address + 8 * at as u64, 8 * size as u64, TEXT);
+        draft.symbol(
+            symbol_name(rng),
+            address + 8 * at as u64,
+            8 * size as u64,
+            TEXT,
+        );
         at += size;
     }
 }
@@ -153,26 +208,48 @@ fn tile(rng: &mut Rng, draft: &mut Draft, address: u64, slots: usize) {
 /// A symbol in a function's middle, past the data or of another kind, that the walk of a text doesn't meet.
 fn between(rng: &mut Rng, draft: &mut Draft, slots: usize) {
     let here = draft.here();
-    let address = draft.last().address.wrapping_add(rng.below(8 * slots + 16) as u64);
-    let taken = draft.symbols.iter().any(|y| y.section == here && y.kind == TEXT && y.address == address);
+    let address = draft
+        .last()
+        .address
+        .wrapping_add(rng.below(8 * slots + 16) as u64);
+    let taken = draft
+        .symbols
+        .iter()
+        .any(|y| y.section == here && y.kind == TEXT && y.address == address);
     let kind = *rng.pick(&[TEXT, TEXT, DATA, OTHER]);
     if kind != TEXT || !taken {
         let size = *rng.pick(&[0, 1, 8, 100, TOP]);
-        draft.symbol(symbol_name(rng), address, size, kind).definition = u8::from(!rng.chance(1, 20));
+        draft
+            .symbol(symbol_name(rng), address, size, kind)
+            .definition = u8::from(!rng.chance(1, 20));
     }
 }
 
 pub fn program(rng: &mut Rng, draft: &mut Draft) {
     let slots = 1 + rng.below(5);
     draft.section(program_name(rng), code(rng, slots)).mark = 1;
-    let address = if rng.chance(1, 6) { rng.below(8 * slots + 1) } else { 0 };
+    let address = if rng.chance(1, 6) {
+        rng.below(8 * slots + 1)
+    } else {
+        0
+    };
     draft.last().address = address as u64;
     draft.last().relocations = relocations(rng);
     for _ in 0..=*rng.pick(&[0, 0, 0, 1, 2]) {
-        let start = if rng.chance(1, 2) { address } else { address + rng.below(8 * slots - address + 1) };
+        let start = if rng.chance(1, 2) {
+            address
+        } else {
+            address + rng.below(8 * slots - address + 1)
+        };
         let most = (8 * slots - start) / 8;
-        let size = if rng.chance(2, 3) { most } else { rng.below(most + 1) };
-        draft.symbol(symbol_name(rng), start as u64, 8 * size as u64, TEXT).definition = u8::from(!rng.chance(1, 80));
+        let size = if rng.chance(2, 3) {
+            most
+        } else {
+            rng.below(most + 1)
+        };
+        draft
+            .symbol(symbol_name(rng), start as u64, 8 * size as u64, TEXT)
+            .definition = u8::from(!rng.chance(1, 80));
     }
     if rng.chance(1, 5) {
         let address = *rng.pick(&[0, 3, 1000, TOP]);
@@ -186,16 +263,32 @@ pub fn program(rng: &mut Rng, draft: &mut Draft) {
 /// A `.data`, `.rodata` or `.bss` section; now and then without data.
 pub fn data(rng: &mut Rng, draft: &mut Draft, prefix: &str) {
     let size = *rng.pick(&[0, 1, 4, 8, 8, 12, 16, 16, 24, 33]);
-    let has_data = if prefix == ".bss" { rng.chance(1, 6) } else { !rng.chance(1, 8) };
+    let has_data = if prefix == ".bss" {
+        rng.chance(1, 6)
+    } else {
+        !rng.chance(1, 8)
+    };
     let name = [prefix, *rng.pick(&["", "", "", ".x", "2"])].concat();
-    draft.section(name, if has_data { bytes(rng, size) } else { Vec::new() }).size = size as u64;
+    draft
+        .section(
+            name,
+            if has_data {
+                bytes(rng, size)
+            } else {
+                Vec::new()
+            },
+        )
+        .size = size as u64;
     draft.last().address = free_address(rng);
     draft.last().mark = u32::from(has_data && rng.chance(1, 12));
     draft.last().relocations = relocations(rng);
     for _ in 0..*rng.pick(&[0, 1, 1, 2, 2, 3, 4]) {
         let at = rng.below(size + 1);
         let most = size - at;
-        let (mut address, mut length) = (at as u64, *rng.pick(&[most, most.min(4), most.min(1)]) as u64);
+        let (mut address, mut length) = (
+            at as u64,
+            *rng.pick(&[most, most.min(4), most.min(1)]) as u64,
+        );
         if rng.chance(1, 12) {
             address = *rng.pick(&[size as u64, size as u64 + 1, TOP, TOP - 1]);
             length = rng.below(5) as u64;
@@ -209,7 +302,11 @@ fn btf_ext(rng: &mut Rng, draft: &mut Draft) {
     draft.section(".BTF.ext", bytes(rng, length)).mark = rng.below(2) as u32;
     draft.last().relocations = relocations(rng);
     if rng.chance(1, 3) {
-        draft.last().relocations.push(RelocationRecord { offset: 0, symbol: NONE, size: 64 });
+        draft.last().relocations.push(RelocationRecord {
+            offset: 0,
+            symbol: NONE,
+            size: 64,
+        });
     }
 }
 
@@ -218,7 +315,10 @@ fn other(rng: &mut Rng, draft: &mut Draft) {
     let name = loop {
         let name = match rng.below(4) {
             0 => program_name(rng),
-            1 => rng.pick(&["", "x", ".strtab", ".symtab", "~", "foo", ".BTFx", ".BT"]).as_bytes().to_vec(),
+            1 => rng
+                .pick(&["", "x", ".strtab", ".symtab", "~", "foo", ".BTFx", ".BT"])
+                .as_bytes()
+                .to_vec(),
             _ => near_prefix(rng),
         };
         if kind(&name, 0, 0) == Kind::Other && name != b".BTF" {
@@ -247,7 +347,12 @@ pub fn elsewhere(rng: &mut Rng, draft: &mut Draft) {
     let definition = u8::from(kind == TEXT || rng.chance(1, 2));
     let absent = draft.here() + 1 + rng.below(4) as u32;
     let section = *rng.pick(&[NONE, NONE, absent, 5000, 0xFF00, 0xFFF1, 0xFFFF, NONE - 1]);
-    let symbol = draft.symbol(symbol_name(rng), rng.below(20) as u64, rng.below(20) as u64, kind);
+    let symbol = draft.symbol(
+        symbol_name(rng),
+        rng.below(20) as u64,
+        rng.below(20) as u64,
+        kind,
+    );
     (symbol.section, symbol.definition) = (section, definition);
 }
 
@@ -293,7 +398,11 @@ mod tests {
         for _ in 0..500 {
             let mut draft = Draft::default();
             text(&mut rng, &mut draft);
-            ends.push(draft.sections[0].address.checked_add(draft.sections[0].size));
+            ends.push(
+                draft.sections[0]
+                    .address
+                    .checked_add(draft.sections[0].size),
+            );
         }
         assert!(ends.contains(&None));
     }

@@ -7,8 +7,14 @@ use crate::rules::piece;
 type Twist = fn(&mut Rng, &mut Records);
 
 /// Each happens once in so many objects.
-const TWISTS: [(usize, Twist); 6] =
-    [(10, share_relocations), (12, overlap_data), (60, spread_sections), (60, spread_symbols), (60, other_size), (200, last_index)];
+const TWISTS: [(usize, Twist); 6] = [
+    (10, share_relocations),
+    (12, overlap_data),
+    (60, spread_sections),
+    (60, spread_symbols),
+    (60, other_size),
+    (200, last_index),
+];
 
 pub fn twist(rng: &mut Rng, records: &mut Records) {
     for (rarity, make) in TWISTS {
@@ -20,7 +26,10 @@ pub fn twist(rng: &mut Rng, records: &mut Records) {
 
 fn part(rng: &mut Rng, table: usize) -> Extent {
     let at = rng.below(table + 1);
-    Extent { at: at as u32, length: rng.below(table - at + 1) as u32 }
+    Extent {
+        at: at as u32,
+        length: rng.below(table - at + 1) as u32,
+    }
 }
 
 fn share_relocations(rng: &mut Rng, records: &mut Records) {
@@ -33,7 +42,11 @@ fn share_relocations(rng: &mut Rng, records: &mut Records) {
 /// Another section's bytes, or parts of several, for a data map.
 fn overlap_data(rng: &mut Rng, records: &mut Records) {
     let names = &records.names;
-    let mut maps: Vec<_> = records.sections.iter_mut().filter(|x| matches!(kind(piece(names, x.name), 0, 0), Kind::Data | Kind::Rodata)).collect();
+    let mut maps: Vec<_> = records
+        .sections
+        .iter_mut()
+        .filter(|x| matches!(kind(piece(names, x.name), 0, 0), Kind::Data | Kind::Rodata))
+        .collect();
     if maps.is_empty() {
         return;
     }
@@ -49,7 +62,11 @@ fn spread_sections(rng: &mut Rng, records: &mut Records) {
     for x in &mut records.sections[from..] {
         x.index += step;
     }
-    for y in records.symbols.iter_mut().filter(|y| y.section >= first && y.section < 4096) {
+    for y in records
+        .symbols
+        .iter_mut()
+        .filter(|y| y.section >= first && y.section < 4096)
+    {
         y.section += step;
     }
 }
@@ -65,7 +82,11 @@ fn spread_symbols(rng: &mut Rng, records: &mut Records) {
 fn other_size(rng: &mut Rng, records: &mut Records) {
     let section = rng.below(records.sections.len());
     let x = &mut records.sections[section];
-    x.size = *rng.pick(&[0, x.size + 1, 2 * x.size, x.size / 2]);
+    if rng.chance(1, 3) {
+        x.bytes.length = 0;
+    } else {
+        x.size = *rng.pick(&[0, x.size + 1, 2 * x.size, x.size / 2]);
+    }
 }
 
 /// The last section gets the index that means none elsewhere: no symbol lies in it.

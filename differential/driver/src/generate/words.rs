@@ -2,9 +2,13 @@
 use crate::kinds::{is_program, kind, Kind, ALONE, BARE, PAIRS, PREFIXES};
 use crate::rng::Rng;
 
-const SHORT: [&str; 14] = ["a", "b", "c", "d", "e", "f", "g", "aa", "ab", "ba", "m", "n", "a/b", "a.b"];
+const SHORT: [&str; 14] = [
+    "a", "b", "c", "d", "e", "f", "g", "aa", "ab", "ba", "m", "n", "a/b", "a.b",
+];
 /// Names that sections have too.
-const SECTIONS: [&str; 8] = [".data", ".data", ".bss", ".rodata", ".data.x", ".text", "xdp", "maps"];
+const SECTIONS: [&str; 8] = [
+    ".data", ".data", ".bss", ".rodata", ".data.x", ".text", "xdp", "maps",
+];
 
 pub fn symbol_name(rng: &mut Rng) -> Vec<u8> {
     match rng.below(32) {
@@ -36,7 +40,11 @@ pub fn program_name(rng: &mut Rng) -> Vec<u8> {
         k if k < ALONE.len() + BARE.len() => (BARE[k - ALONE.len()], false),
         k => (PAIRS[k - ALONE.len() - BARE.len()], true),
     };
-    let rest = if alone { *rng.pick(&["", "", "", "/f", "/f/g", "/", "//"]) } else { "" };
+    let rest = if alone {
+        *rng.pick(&["", "", "", "/f", "/f/g", "/", "//"])
+    } else {
+        ""
+    };
     [name, rest].concat().into_bytes()
 }
 
@@ -51,8 +59,29 @@ pub fn unknown_program_name(rng: &mut Rng) -> Vec<u8> {
             3 => drop(name.remove(0)),
             4 => name.make_ascii_uppercase(),
             5 => name.extend(b".s"),
-            6 => name.truncate(name.iter().position(|&b| b == b'/').map_or(0, |k| k + rng.below(2))),
-            7 => name = rng.pick(&["", "/", "xdp/", "xdp/x", "cgroup", "cgroup/", "sk_skb", "sk_skb/", "cgroup_skb", "sk_reuseport/", "foo"]).as_bytes().to_vec(),
+            6 => name.truncate(
+                name.iter()
+                    .position(|&b| b == b'/')
+                    .map_or(0, |k| k + rng.below(2)),
+            ),
+            7 => {
+                name = rng
+                    .pick(&[
+                        "",
+                        "/",
+                        "xdp/",
+                        "xdp/x",
+                        "cgroup",
+                        "cgroup/",
+                        "sk_skb",
+                        "sk_skb/",
+                        "cgroup_skb",
+                        "sk_reuseport/",
+                        "foo",
+                    ])
+                    .as_bytes()
+                    .to_vec()
+            }
             _ => name = near_prefix(rng),
         }
         if kind(&name, 1, 1) == Kind::Program && !is_program(&name) {
@@ -63,7 +92,11 @@ pub fn unknown_program_name(rng: &mut Rng) -> Vec<u8> {
 
 /// A name that misses a prefix of document 01 by little.
 pub fn near_prefix(rng: &mut Rng) -> Vec<u8> {
-    let mut name = if rng.chance(1, 5) { b".BTF.ext".to_vec() } else { rng.pick(&PREFIXES).0.as_bytes().to_vec() };
+    let mut name = if rng.chance(1, 5) {
+        b".BTF.ext".to_vec()
+    } else {
+        rng.pick(&PREFIXES).0.as_bytes().to_vec()
+    };
     match rng.below(4) {
         0 => drop(name.pop()),
         1 => drop(name.remove(0)),
@@ -77,10 +110,29 @@ pub fn near_prefix(rng: &mut Rng) -> Vec<u8> {
     name
 }
 
-const OPCODES: [u8; 12] = [0x85, 0x85, 0x85, 0x85, 0x84, 0x86, 0x8D, 0x95, 0x05, 0xC5, 0x75, 0x18];
-const REGISTERS: [u8; 8] = [0, 0, 0, 0, 1, 0x10, 0x01, 0xFF];
+const OPCODES: [u8; 16] = [
+    0x85, 0x85, 0x85, 0x85, 0x85, 0x85, 0x85, 0x85, 0x84, 0x86, 0x8D, 0x95, 0x05, 0xC5, 0x75, 0x18,
+];
+const REGISTERS: [u8; 8] = [0, 0, 0, 0, 0, 0x10, 0x01, 0xFF];
 const OFFSETS: [i16; 6] = [0, 0, 0, 1, -1, 0x7171];
-const IMMEDIATES: [i32; 16] = [3, 4, 45, 111, 112, 113, 114, 115, 116, 112, 113, 114, 115, -113, 113 + 256, 113 << 24];
+const IMMEDIATES: [i32; 16] = [
+    3,
+    4,
+    45,
+    111,
+    112,
+    113,
+    114,
+    115,
+    116,
+    112,
+    113,
+    114,
+    115,
+    -113,
+    113 + 256,
+    113 << 24,
+];
 
 /// So many slots of code, eight bytes each; many are calls that rewriting looks at.
 pub fn code(rng: &mut Rng, slots: usize) -> Vec<u8> {
@@ -123,8 +175,14 @@ mod tests {
     fn every_variant_is_drawn_and_known() {
         let mut rng = Rng::new(1);
         let drawn: HashSet<Vec<u8>> = (0..5000).map(|_| program_name(&mut rng)).collect();
-        assert!(drawn.iter().all(|name| is_program(name) && kind(name, 1, 8) == Kind::Program));
-        assert!(ALONE.iter().chain(&BARE).chain(&PAIRS).all(|name| drawn.contains(name.as_bytes())));
+        assert!(drawn
+            .iter()
+            .all(|name| is_program(name) && kind(name, 1, 8) == Kind::Program));
+        assert!(ALONE
+            .iter()
+            .chain(&BARE)
+            .chain(&PAIRS)
+            .all(|name| drawn.contains(name.as_bytes())));
     }
 
     #[test]
@@ -132,7 +190,9 @@ mod tests {
         let mut rng = Rng::new(2);
         for _ in 0..2000 {
             assert!(near_prefix(&mut rng).iter().all(|b| (1..=127).contains(b)));
-            assert!(unknown_program_name(&mut rng).iter().all(|b| (1..=127).contains(b)));
+            assert!(unknown_program_name(&mut rng)
+                .iter()
+                .all(|b| (1..=127).contains(b)));
             assert!(symbol_name(&mut rng).iter().all(|b| (1..=127).contains(b)));
         }
     }
@@ -143,8 +203,12 @@ mod tests {
         assert_eq!(code(&mut rng, 7).len(), 56);
         let many = code(&mut rng, 2000);
         for immediate in 112..=115 {
-            assert!(many.chunks(8).any(|slot| slot == [0x85, 0, 0, 0, immediate, 0, 0, 0]));
+            assert!(many
+                .chunks(8)
+                .any(|slot| slot == [0x85, 0, 0, 0, immediate, 0, 0, 0]));
         }
-        assert!(many.chunks(8).any(|slot| slot[0] == 0x85 && slot[1] == 0x10 && slot[4] == 113));
+        assert!(many
+            .chunks(8)
+            .any(|slot| slot[0] == 0x85 && slot[1] == 0x10 && slot[4] == 113));
     }
 }
