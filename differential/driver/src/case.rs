@@ -72,6 +72,8 @@ pub struct Refusal {
 pub enum Judge {
     /// The crate, run on `records` as an ELF file with `list`: the case is in document 01's domain of comparison.
     Crate,
+    /// The crate, given one entry of `list` after the other: on the whole list its hash order would show.
+    CrateByEntry,
     /// The way the case was made.
     Known(Refusal),
     /// Nobody: only what needs no judge is held.

@@ -1,7 +1,7 @@
 //! One case: the load call is run on it, held to its judge, and to what needs no judge.
 use crate::answer::{Answer, Lent, Room, Summary};
 use crate::case::{Case, Judge, Refusal};
-use crate::theirs::Theirs;
+use crate::theirs::{Given, Theirs};
 use crate::{compare, elf, lay, ours, room, theirs};
 
 /// What our call gave, for the counts.
@@ -126,18 +126,19 @@ fn judged(case: &Case, answer: &Answer, lent: &Lent) -> Result<(), String> {
     match &case.judge {
         Judge::None => Ok(()),
         Judge::Known(refusal) => ensure(*answer == Answer::Refused(*refusal), || format!("made to be {refusal:?}, is {answer:?}")),
-        Judge::Crate => match compare::difference(answer, lent, &by_crate(case)) {
+        Judge::Crate | Judge::CrateByEntry => match compare::difference(answer, lent, &by_crate(case)) {
             None => Ok(()),
             Some(text) => Err(text),
         },
     }
 }
 
-/// What the crate makes of a case of the domain.
+/// What the crate makes of a case that it judges.
 pub fn by_crate(case: &Case) -> Theirs {
     let records = case.records.as_ref().expect("a case that the crate judges has records");
     let list = case.list.as_ref().expect("a case that the crate judges has a list");
-    theirs::run(&elf::write(records), records.sections.len() as u32, list, case.rewrite)
+    let given = if case.judge == Judge::CrateByEntry { Given::ByEntry } else { Given::Whole };
+    theirs::run(&elf::write(records), records.sections.len() as u32, list, given, case.rewrite)
 }
 
 /// A case that the crate judged, for the record: its lent lengths, a little more than the catalogue takes, and what the crate's catalogue lays in them.

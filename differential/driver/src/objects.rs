@@ -6,7 +6,7 @@ use std::path::{Path, PathBuf};
 
 use crate::answer::{Answer, Room};
 use crate::case::{Case, Judge, Refusal};
-use crate::theirs::Theirs;
+use crate::theirs::{Given, Theirs};
 use crate::{compare, ours, theirs};
 
 /// Room for what such an object takes.
@@ -89,7 +89,7 @@ fn beside(file: &Path) -> Result<Held, String> {
 fn held(case: &Case, object: &[u8]) -> Held {
     let (answer, lent) = ours::load(case, &ROOM, 0xA5);
     // The file's own tables are in the deposit too.
-    let theirs = theirs::run(object, u32::MAX, &[], case.rewrite);
+    let theirs = theirs::run(object, u32::MAX, &[], Given::Whole, case.rewrite);
     match answer {
         Answer::Refused(Refusal { number: 3, .. }) => return Held::Outside("section .BTF"),
         Answer::Refused(Refusal { number: 16, .. }) if undefined_pinning(&theirs) => return Held::Outside("pinning neither 0 nor 1"),

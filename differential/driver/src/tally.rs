@@ -8,8 +8,8 @@ use crate::hold::Run;
 #[derive(Default)]
 pub struct Tally {
     pub cases: u64,
-    /// By judge: the crate on accepted and on refused cases, the way a case was made, nobody.
-    pub judged: [u64; 4],
+    /// By judge: the crate on accepted and on refused cases, the crate entry by entry, the way a case was made, nobody.
+    pub judged: [u64; 5],
     pub refusals: BTreeMap<u32, u64>,
     /// Variant, first and second value of each program that was listed.
     pub variants: BTreeMap<[u64; 3], u64>,
@@ -29,8 +29,9 @@ impl Tally {
         };
         let judge = match case.judge {
             Judge::Crate => usize::from(refused != 0),
-            Judge::Known(_) => 2,
-            Judge::None => 3,
+            Judge::CrateByEntry => 2,
+            Judge::Known(_) => 3,
+            Judge::None => 4,
         };
         self.judged[judge] += 1;
         *self.refusals.entry(refused).or_default() += 1;
@@ -73,9 +74,9 @@ impl Tally {
 
     /// The last line.
     pub fn line(&self) -> String {
-        let [accepted, refused, known, free] = self.judged;
+        let [accepted, refused, by_entry, known, free] = self.judged;
         format!(
-            "{} cases: {} compared with the crate ({accepted} accepted, {refused} refused), {known} with a refusal known by their making, {free} held to what needs no judge",
+            "{} cases: {} compared with the crate on the domain ({accepted} accepted, {refused} refused), {by_entry} with the crate entry by entry, {known} with a refusal known by their making, {free} held to what needs no judge",
             self.cases,
             accepted + refused
         )
