@@ -1,6 +1,6 @@
 //! Deposits: records as a stream, a stream in blocks with checks, and back (document 01, 'The deposit').
 use crate::case::{Extent, Records, RelocationRecord, SectionRecord, SymbolRecord};
-use crate::rules::{broken, MOST_BYTES, MOST_RECORDS, MOST_SECTIONS};
+use crate::rules::{MOST_BYTES, MOST_RECORDS, MOST_SECTIONS, broken};
 
 pub const BLOCK: usize = 512;
 /// The bytes of stream in a block.
@@ -308,7 +308,9 @@ mod tests {
         assert_eq!(&stream[80 + 32..80 + 40], [1, 1, 0, 0, 0, 0, 0, 0]);
         assert_eq!(
             &stream[120..136],
-            [0x88, 0x77, 0x66, 0x55, 0x44, 0x33, 0x22, 0x11, 7, 0, 0, 0, 64, 0, 0, 0]
+            [
+                0x88, 0x77, 0x66, 0x55, 0x44, 0x33, 0x22, 0x11, 7, 0, 0, 0, 64, 0, 0, 0
+            ]
         );
         assert_eq!(&stream[136..141], b"xdp\0\x01");
     }

@@ -1,7 +1,7 @@
 //! The 64-bit ELF relocatable that states records: their sections keep their indexes, the file's own tables come last.
 use std::collections::HashMap;
 
-use crate::case::{Extent, Records, SectionRecord, SymbolRecord, NONE};
+use crate::case::{Extent, NONE, Records, SectionRecord, SymbolRecord};
 use crate::rules::piece;
 
 const HEAD: u64 = 64;

@@ -24,23 +24,25 @@ pub fn hold(case: &Case) -> Result<Run, String> {
             fits_exactly(case, &summary, &lent)?;
         }
         Answer::Refused(refusal) => {
-            ensure(compare::all_zero(&lent), || "refused, and not everything lent is zero".into())?;
-            ensure(refusal.number != 24, || "24, though there is room for every catalogue".into())?;
+            ensure(compare::all_zero(&lent), || {
+                "refused, and not everything lent is zero".into()
+            })?;
+            ensure(refusal.number != 24, || {
+                "24, though there is room for every catalogue".into()
+            })?;
             same_without_room(case, &refusal)?;
         }
     }
     let again = ours::load(case, &room, 0);
-    ensure(again == (answer, lent.clone()), || "what was lent before the call shows".into())?;
+    ensure(again == (answer, lent.clone()), || {
+        "what was lent before the call shows".into()
+    })?;
     judged(case, &answer, &lent)?;
     Ok(Run { answer, lent })
 }
 
 fn ensure(holds: bool, otherwise: impl FnOnce() -> String) -> Result<(), String> {
-    if holds {
-        Ok(())
-    } else {
-        Err(otherwise())
-    }
+    if holds { Ok(()) } else { Err(otherwise()) }
 }
 
 /// Room for every catalogue of the case; some for bytes that no records stand behind.
@@ -52,12 +54,26 @@ fn lent_for(case: &Case) -> Room {
 }
 
 fn from_lengths(l: [usize; 6]) -> Room {
-    Room { sections: l[0], programs: l[1], functions: l[2], maps: l[3], relocations: l[4], bytes: l[5] }
+    Room {
+        sections: l[0],
+        programs: l[1],
+        functions: l[2],
+        maps: l[3],
+        relocations: l[4],
+        bytes: l[5],
+    }
 }
 
 /// The lent lengths that the catalogue takes.
 fn taken(s: &Summary) -> [usize; 6] {
-    let rows = [s.sections, s.programs, s.functions, s.maps, s.relocations, s.bytes];
+    let rows = [
+        s.sections,
+        s.programs,
+        s.functions,
+        s.maps,
+        s.relocations,
+        s.bytes,
+    ];
     let mut lengths = [0; 6];
     for (k, length) in lengths.iter_mut().enumerate() {
         *length = rows[k] as usize * WIDTHS[k];
@@ -67,7 +83,9 @@ fn taken(s: &Summary) -> [usize; 6] {
 
 fn zero_behind(summary: &Summary, lent: &Lent) -> Result<(), String> {
     let behind = cut(lent, &taken(summary), true).ok_or("the summary counts more than was lent")?;
-    ensure(compare::all_zero(&behind), || "what is lent past the catalogue is not zero".into())
+    ensure(compare::all_zero(&behind), || {
+        "what is lent past the catalogue is not zero".into()
+    })
 }
 
 /// The part of each table up to a length, or from it on.
@@ -91,11 +109,17 @@ fn finds_each(summary: &Summary, lent: &Lent) -> Result<(), String> {
     let count = summary.functions as usize;
     for (k, row) in lent.functions[..count].iter().enumerate() {
         let found = ours::find(&lent.functions, count, row.section, row.address);
-        ensure(found == Some(k as u64), || format!("find gives {found:?} for row {k} of the function table"))?;
+        ensure(found == Some(k as u64), || {
+            format!("find gives {found:?} for row {k} of the function table")
+        })?;
         let next = row.address.wrapping_add(1);
-        let known = lent.functions[..count].iter().position(|f| (f.section, f.address) == (row.section, next));
+        let known = lent.functions[..count]
+            .iter()
+            .position(|f| (f.section, f.address) == (row.section, next));
         let found = ours::find(&lent.functions, count, row.section, next);
-        ensure(found == known.map(|k| k as u64), || format!("find gives {found:?} for the address behind row {k}"))?;
+        ensure(found == known.map(|k| k as u64), || {
+            format!("find gives {found:?} for the address behind row {k}")
+        })?;
     }
     Ok(())
 }
@@ -104,14 +128,25 @@ fn finds_each(summary: &Summary, lent: &Lent) -> Result<(), String> {
 fn fits_exactly(case: &Case, summary: &Summary, lent: &Lent) -> Result<(), String> {
     let exact = taken(summary);
     let (answer, held) = ours::load(case, &from_lengths(exact), 0x5A);
-    ensure(answer == Answer::Accepted(*summary), || format!("lent exactly what it takes: {answer:?}"))?;
-    ensure(Some(held) == cut(lent, &exact, false), || "lent exactly what it takes, the catalogue differs".into())?;
+    ensure(answer == Answer::Accepted(*summary), || {
+        format!("lent exactly what it takes: {answer:?}")
+    })?;
+    ensure(Some(held) == cut(lent, &exact, false), || {
+        "lent exactly what it takes, the catalogue differs".into()
+    })?;
     for k in (0..6).filter(|&k| exact[k] > 0) {
         let mut less = exact;
         less[k] -= 1;
         let (answer, held) = ours::load(case, &from_lengths(less), 0x5A);
-        let full = Answer::Refused(Refusal { number: 24, section: 0, symbol: 0, entry: 0 });
-        ensure(answer == full && compare::all_zero(&held), || format!("lent one element less ({less:?}): {answer:?}"))?;
+        let full = Answer::Refused(Refusal {
+            number: 24,
+            section: 0,
+            symbol: 0,
+            entry: 0,
+        });
+        ensure(answer == full && compare::all_zero(&held), || {
+            format!("lent one element less ({less:?}): {answer:?}")
+        })?;
     }
     Ok(())
 }
@@ -119,40 +154,68 @@ fn fits_exactly(case: &Case, summary: &Summary, lent: &Lent) -> Result<(), Strin
 /// 24 comes last: a refusal is the same where nothing is lent.
 fn same_without_room(case: &Case, refusal: &Refusal) -> Result<(), String> {
     let (answer, _) = ours::load(case, &Room::default(), 0);
-    ensure(answer == Answer::Refused(*refusal), || format!("{refusal:?}, but with nothing lent {answer:?}"))
+    ensure(answer == Answer::Refused(*refusal), || {
+        format!("{refusal:?}, but with nothing lent {answer:?}")
+    })
 }
 
 fn judged(case: &Case, answer: &Answer, lent: &Lent) -> Result<(), String> {
     match &case.judge {
         Judge::None => Ok(()),
-        Judge::Known(refusal) => ensure(*answer == Answer::Refused(*refusal), || format!("made to be {refusal:?}, is {answer:?}")),
-        Judge::Crate | Judge::CrateByEntry => match compare::difference(answer, lent, &by_crate(case)) {
-            None => Ok(()),
-            Some(text) => Err(text),
-        },
+        Judge::Known(refusal) => ensure(*answer == Answer::Refused(*refusal), || {
+            format!("made to be {refusal:?}, is {answer:?}")
+        }),
+        Judge::Crate | Judge::CrateByEntry => {
+            match compare::difference(answer, lent, &by_crate(case)) {
+                None => Ok(()),
+                Some(text) => Err(text),
+            }
+        }
     }
 }
 
 /// What the crate makes of a case that it judges.
 pub fn by_crate(case: &Case) -> Theirs {
-    let records = case.records.as_ref().expect("a case that the crate judges has records");
-    let list = case.list.as_ref().expect("a case that the crate judges has a list");
-    let given = if case.judge == Judge::CrateByEntry { Given::ByEntry } else { Given::Whole };
-    theirs::run(&elf::write(records), records.sections.len() as u32, list, given, case.rewrite)
+    let records = case
+        .records
+        .as_ref()
+        .expect("a case that the crate judges has records");
+    let list = case
+        .list
+        .as_ref()
+        .expect("a case that the crate judges has a list");
+    let given = if case.judge == Judge::CrateByEntry {
+        Given::ByEntry
+    } else {
+        Given::Whole
+    };
+    theirs::run(
+        &elf::write(records),
+        records.sections.len() as u32,
+        list,
+        given,
+        case.rewrite,
+    )
 }
 
-/// A case that the crate judged, for the record: its lent lengths, a little more than the catalogue takes, and what the crate's catalogue lays in them.
-/// A refusal keeps our places, since the crate names few.
+/// A case for the record: its lent lengths, a little more than the catalogue takes; the answer and what it lays in them.
+/// They are the crate's where it judges and accepts. A refusal keeps our places, since the crate names few.
 pub fn recorded(case: &Case, run: &Run) -> (Room, Answer, Lent) {
-    let Theirs::Accepted(catalogue) = by_crate(case) else {
-        return (from_lengths([9, 15, 2, 28, 9, 41]), run.answer, Lent::default());
+    let Answer::Accepted(summary) = run.answer else {
+        let room = from_lengths([9, 15, 2, 28, 9, 41]);
+        return (room, run.answer, Lent::default());
     };
-    let summary = lay::summary(&catalogue);
     let mut lengths = taken(&summary);
     for (length, more) in lengths.iter_mut().zip([3, 3, 1, 3, 3, 5]) {
         *length += more;
     }
     let room = from_lengths(lengths);
-    let lent = lay::lent(&catalogue, &room);
-    (room, Answer::Accepted(summary), lent)
+    if case.judge != Judge::None
+        && let Theirs::Accepted(catalogue) = by_crate(case)
+    {
+        let answer = Answer::Accepted(lay::summary(&catalogue));
+        return (room, answer, lay::lent(&catalogue, &room));
+    }
+    let (answer, lent) = ours::load(case, &room, 0xA5);
+    (room, answer, lent)
 }

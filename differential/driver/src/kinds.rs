@@ -171,10 +171,12 @@ mod tests {
         ] {
             assert!(!is_program(unknown.as_bytes()), "{unknown}");
         }
-        assert!(ALONE
-            .iter()
-            .chain(&BARE)
-            .chain(&PAIRS)
-            .all(|n| is_program(n.as_bytes())));
+        assert!(
+            ALONE
+                .iter()
+                .chain(&BARE)
+                .chain(&PAIRS)
+                .all(|n| is_program(n.as_bytes()))
+        );
     }
 }

@@ -25,8 +25,8 @@ mod theirs;
 
 use std::path::Path;
 use std::process::ExitCode;
-use std::sync::atomic::{AtomicU64, Ordering};
 use std::sync::Mutex;
+use std::sync::atomic::{AtomicU64, Ordering};
 use std::{fs, thread};
 
 use case::{Case, Judge};
@@ -34,7 +34,8 @@ use rng::Rng;
 use tally::Tally;
 
 const USAGE: &str = "driver random N SEED FOLDER: N cases drawn by SEED, those at the limits among them
-driver record N SEED FOLDER: N cases that the crate judged, as the program replay reads them, into FOLDER
+driver record N SEED FOLDER: N cases with the crate's answers, as the program replay reads them, into FOLDER
+driver outside N SEED FOLDER: N cases that nobody judges with our answers, for tools/model_check.py, into FOLDER
 driver objects FOLDER: each NAME.o in FOLDER beside its NAME.deposit
 A difference is shrunk and saved in FOLDER, and the exit status is 1.";
 
@@ -45,8 +46,31 @@ fn main() -> ExitCode {
     let words: Vec<String> = std::env::args().skip(1).collect();
     let words: Vec<&str> = words.iter().map(String::as_str).collect();
     let run = || match words[..] {
-        ["random", n, seed, folder] => Some(random(n.parse().ok()?, seed.parse().ok()?, Path::new(folder))),
-        ["record", n, seed, folder] => Some(recorded(n.parse().ok()?, seed.parse().ok()?, Path::new(folder))),
+        ["random", n, seed, folder] => Some(random(
+            n.parse().ok()?,
+            seed.parse().ok()?,
+            Path::new(folder),
+        )),
+        ["record", n, seed, folder] => {
+            let folder = Path::new(folder);
+            Some(written(
+                n.parse().ok()?,
+                seed.parse().ok()?,
+                folder,
+                "crate",
+                by_crate,
+            ))
+        }
+        ["outside", n, seed, folder] => {
+            let folder = Path::new(folder);
+            Some(written(
+                n.parse().ok()?,
+                seed.parse().ok()?,
+                folder,
+                "outside",
+                by_nobody,
+            ))
+        }
         ["objects", folder] => Some(objects::run(Path::new(folder))),
         _ => None,
     };
@@ -64,7 +88,9 @@ fn main() -> ExitCode {
 fn drawn(seed: u64, i: u64) -> Case {
     let mut mixed = Rng::new(seed);
     let start = mixed.next();
-    generate::case(&mut Rng::new(start.wrapping_add(i.wrapping_mul(0x9E37_79B9_7F4A_7C15))))
+    generate::case(&mut Rng::new(
+        start.wrapping_add(i.wrapping_mul(0x9E37_79B9_7F4A_7C15)),
+    ))
 }
 
 /// Whether no difference was found.
@@ -80,7 +106,10 @@ fn random(n: u64, seed: u64, folder: &Path) -> bool {
             if i >= n || i >= stop.load(Ordering::Relaxed) {
                 break;
             }
-            let case = limits.get(i as usize).cloned().unwrap_or_else(|| drawn(seed, i));
+            let case = limits
+                .get(i as usize)
+                .cloned()
+                .unwrap_or_else(|| drawn(seed, i));
             match hold::hold(&case) {
                 Ok(run) => tally.count(&case, &run),
                 Err(text) => {
@@ -93,13 +122,24 @@ fn random(n: u64, seed: u64, folder: &Path) -> bool {
     };
     thread::scope(|scope| {
         for _ in 0..thread::available_parallelism().map_or(1, usize::from) {
-            thread::Builder::new().stack_size(STACK).spawn_scoped(scope, work).expect("a thread");
+            thread::Builder::new()
+                .stack_size(STACK)
+                .spawn_scoped(scope, work)
+                .expect("a thread");
         }
     });
     let total = total.into_inner().unwrap();
     total.print();
     let same = stop.into_inner() == u64::MAX;
-    println!("{}; {}", total.line(), if same { "no difference" } else { "A DIFFERENCE" });
+    println!(
+        "{}; {}",
+        total.line(),
+        if same {
+            "no difference"
+        } else {
+            "A DIFFERENCE"
+        }
+    );
     same
 }
 
@@ -107,48 +147,60 @@ fn random(n: u64, seed: u64, folder: &Path) -> bool {
 fn report(which: &str, case: Case, text: &str, folder: &Path) {
     println!("difference, {which}, made for {}: {text}", case.aim);
     let small = shrink::shrink(case, &mut |c| hold::hold(c).is_err());
-    if let Err(text) = hold::hold(&small) {
-        println!("shrunk: {text}");
-    }
-    match save(&small, folder) {
-        Ok(()) => println!("saved as {}/difference.*: {small:?}", folder.display()),
-        Err(e) => println!("not saved in {}: {e}; {small:?}", folder.display()),
+    let text = hold::hold(&small).err().unwrap_or_default();
+    println!("shrunk: {text}\n{}", told(&small));
+    match save(&small, &text, folder) {
+        Ok(()) => println!("saved as {}/difference.*", folder.display()),
+        Err(e) => println!("not saved in {}: {e}", folder.display()),
     }
 }
 
-fn save(case: &Case, folder: &Path) -> std::io::Result<()> {
+/// A case in words; its deposit is a file.
+fn told(case: &Case) -> String {
+    let deposit = match &case.records {
+        Some(records) => format!("{records:?}"),
+        None => format!("{} bytes that state no records", case.deposit.len()),
+    };
+    let Case {
+        entries,
+        patches,
+        rewrite,
+        ..
+    } = case;
+    format!("{deposit}\nlist {entries:?} over {patches:?}\nrewriting {rewrite}")
+}
+
+fn save(case: &Case, text: &str, folder: &Path) -> std::io::Result<()> {
     fs::create_dir_all(folder)?;
     fs::write(folder.join("difference.deposit"), &case.deposit)?;
     if let Some(records) = &case.records {
         fs::write(folder.join("difference.o"), elf::write(records))?;
     }
-    fs::write(folder.join("difference.txt"), format!("{case:#?}\n"))
+    let text = format!("{text}\n{}\n", told(case));
+    fs::write(folder.join("difference.txt"), text)
 }
 
-/// Deposits above this length are not recorded: the file stays small.
-const RECORDED: usize = 1536;
+/// Deposits above this length are not written out: the file stays small.
+const WRITTEN: usize = 1536;
 
-fn recorded(n: u64, seed: u64, folder: &Path) -> bool {
+/// Writes out N cases of a judge, as the program replay reads them and with what it is to write; whether no difference was found.
+fn written(n: u64, seed: u64, folder: &Path, word: &str, wanted: fn(&Judge) -> bool) -> bool {
     let (mut input, mut output) = (String::new(), String::new());
-    let mut i = 0;
-    let mut kept = 0;
-    while kept < n {
-        let case = drawn(seed, i);
-        i += 1;
-        if case.judge != Judge::Crate || case.deposit.len() > RECORDED {
-            continue;
-        }
+    let mut cases = (0..).map(|i| (i, drawn(seed, i)));
+    let mut wanted = cases
+        .by_ref()
+        .filter(|(_, case)| wanted(&case.judge) && case.deposit.len() <= WRITTEN);
+    for (i, case) in wanted.by_ref().take(n as usize) {
         match hold::hold(&case) {
             Err(text) => {
                 report(&format!("case {i} of seed {seed}"), case, &text, folder);
                 return false;
             }
             Ok(run) => {
-                let name = format!("crate-{seed}-{i}");
+                let name = format!("{word}-{seed}-{i}");
                 let (room, answer, lent) = hold::recorded(&case, &run);
                 input += &record::line(&name, &case, &room);
                 output += &record::printed(&name, &answer, &lent);
-                kept += 1;
             }
         }
     }
@@ -157,7 +209,15 @@ fn recorded(n: u64, seed: u64, folder: &Path) -> bool {
         .and_then(|()| fs::write(folder.join("stdout"), output));
     match written {
         Ok(()) => println!("{n} cases in {}", folder.display()),
-        Err(e) => println!("{}: {e}", folder.display()),
+        Err(ref e) => println!("{}: {e}", folder.display()),
     }
-    true
+    written.is_ok()
+}
+
+fn by_crate(judge: &Judge) -> bool {
+    matches!(judge, Judge::Crate | Judge::CrateByEntry)
+}
+
+fn by_nobody(judge: &Judge) -> bool {
+    *judge == Judge::None
 }

@@ -10,7 +10,14 @@ use crate::theirs::{Given, Theirs};
 use crate::{compare, ours, theirs};
 
 /// Room for what such an object takes.
-const ROOM: Room = Room { sections: 1 << 14, programs: 1 << 14, functions: 1 << 12, maps: 1 << 16, relocations: 1 << 18, bytes: 1 << 24 };
+const ROOM: Room = Room {
+    sections: 1 << 14,
+    programs: 1 << 14,
+    functions: 1 << 12,
+    maps: 1 << 16,
+    relocations: 1 << 18,
+    bytes: 1 << 24,
+};
 
 enum Held {
     Accepted,
@@ -43,24 +50,39 @@ pub fn run(folder: &Path) -> bool {
             }
         }
     }
-    println!("objects refused on both sides, by number:{}", listed(&refused));
+    println!(
+        "objects refused on both sides, by number:{}",
+        listed(&refused)
+    );
     println!("objects outside the comparison:{}", listed(&outside));
     let both: u32 = refused.values().sum();
-    println!("{} objects: {accepted} accepted and {both} refused on both sides, {} outside, {differ} differ", files.len(), outside.values().sum::<u32>());
+    println!(
+        "{} objects: {accepted} accepted and {both} refused on both sides, {} outside, {differ} differ",
+        files.len(),
+        outside.values().sum::<u32>()
+    );
     differ == 0
 }
 
 fn listed<K: Display>(counts: &BTreeMap<K, u32>) -> String {
-    let words: Vec<String> = counts.iter().map(|(key, n)| format!(" {key} ({n})")).collect();
+    let words: Vec<String> = counts
+        .iter()
+        .map(|(key, n)| format!(" {key} ({n})"))
+        .collect();
     words.join(",")
 }
 
 fn name(file: &Path) -> String {
-    file.file_name().unwrap_or_default().to_string_lossy().into_owned()
+    file.file_name()
+        .unwrap_or_default()
+        .to_string_lossy()
+        .into_owned()
 }
 
 fn objects(folder: &Path) -> std::io::Result<Vec<PathBuf>> {
-    let mut files: Vec<PathBuf> = fs::read_dir(folder)?.map(|e| Ok(e?.path())).collect::<std::io::Result<_>>()?;
+    let mut files: Vec<PathBuf> = fs::read_dir(folder)?
+        .map(|e| Ok(e?.path()))
+        .collect::<std::io::Result<_>>()?;
     files.retain(|f| f.extension().is_some_and(|e| e == "o"));
     files.sort();
     Ok(files)
@@ -80,7 +102,13 @@ fn beside(file: &Path) -> Result<Held, String> {
         judge: Judge::None,
     };
     let plain = held(&case, &object);
-    match held(&Case { rewrite: true, ..case }, &object) {
+    match held(
+        &Case {
+            rewrite: true,
+            ..case
+        },
+        &object,
+    ) {
         Held::Differs(text) => Err(format!("with rewriting: {text}")),
         _ => Ok(plain),
     }
@@ -92,7 +120,9 @@ fn held(case: &Case, object: &[u8]) -> Held {
     let theirs = theirs::run(object, u32::MAX, &[], Given::Whole, case.rewrite);
     match answer {
         Answer::Refused(Refusal { number: 3, .. }) => return Held::Outside("section .BTF"),
-        Answer::Refused(Refusal { number: 16, .. }) if undefined_pinning(&theirs) => return Held::Outside("pinning neither 0 nor 1"),
+        Answer::Refused(Refusal { number: 16, .. }) if undefined_pinning(&theirs) => {
+            return Held::Outside("pinning neither 0 nor 1");
+        }
         _ => (),
     }
     match (compare::difference(&answer, &lent, &theirs), answer) {

@@ -44,7 +44,13 @@ unsafe extern "C" {
         bytes_length: usize,
         answer: *mut LoadAnswer,
     );
-    fn buncoyew_find(functions: *const Function, functions_length: usize, count: usize, section: u32, address: u64) -> u64;
+    fn buncoyew_find(
+        functions: *const Function,
+        functions_length: usize,
+        count: usize,
+        section: u32,
+        address: u64,
+    ) -> u64;
 }
 
 /// Loads into tables and bytes of these lengths that hold `fill` before the call.

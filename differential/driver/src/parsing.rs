@@ -1,8 +1,8 @@
 //! How parsing an object ends, as far as the domain of comparison and the patch list ask: whether it is refused (4 to 17), not with which number.
 use std::collections::{HashMap, HashSet};
 
-use crate::case::{Records, SectionRecord, SymbolRecord, NONE};
-use crate::kinds::{is_program, kind, Kind};
+use crate::case::{NONE, Records, SectionRecord, SymbolRecord};
+use crate::kinds::{Kind, is_program, kind};
 use crate::rules::piece;
 
 pub const TEXT: u8 = 1;

@@ -1,9 +1,9 @@
 //! How much to lend: no accepted catalogue takes more.
 use crate::answer::Room;
 use crate::case::{Records, SectionRecord, SymbolRecord};
-use crate::kinds::{kind, Kind};
+use crate::kinds::{Kind, kind};
 use crate::parsing::TEXT;
-use crate::rules::{piece, MOST_BYTES};
+use crate::rules::{MOST_BYTES, piece};
 
 /// Rows of numbers are counted as numbers, functions as rows.
 pub fn enough(records: &Records) -> Room {

@@ -91,7 +91,7 @@ pub fn piece(table: &[u8], extent: Extent) -> &[u8] {
 #[cfg(test)]
 mod tests {
     use super::*;
-    use crate::case::{RelocationRecord, NONE};
+    use crate::case::{NONE, RelocationRecord};
 
     fn sound() -> Records {
         Records {

@@ -1,8 +1,8 @@
 //! Deposits that break a rule of the stream (2) or whose blocks are damaged (1, 2).
-use crate::case::{Extent, Records, NONE};
-use crate::deposit::{self, lay_out, places, seal, stream, BLOCK, RELOCATION, STREAM, SYMBOL};
+use crate::case::{Extent, NONE, Records};
+use crate::deposit::{self, BLOCK, RELOCATION, STREAM, SYMBOL, lay_out, places, seal, stream};
 use crate::rng::Rng;
-use crate::rules::{piece, MOST_BYTES};
+use crate::rules::{MOST_BYTES, piece};
 
 /// Breaks one rule; false where the records have nothing to break it on.
 type Break = fn(&mut Rng, &mut Records) -> bool;

@@ -1,10 +1,10 @@
 //! Sections that go back with one of the numbers 3 to 17, if nothing before them does.
-use crate::case::{RelocationRecord, NONE};
+use crate::case::{NONE, RelocationRecord};
 use crate::rng::Rng;
 
 use super::draft::Draft;
 use super::sections::{
-    any, legacy_maps, map_record, program, relocation, relocations, text, DATA, OTHER, TEXT, TOP,
+    DATA, OTHER, TEXT, TOP, any, legacy_maps, map_record, program, relocation, relocations, text,
 };
 use super::words::{bytes, code, program_name, symbol_name, unknown_program_name};
 
@@ -299,7 +299,7 @@ fn btf_maps(rng: &mut Rng, draft: &mut Draft) {
 mod tests {
     use super::*;
     use crate::domain::{judge, known};
-    use crate::parsing::{parse, Stop};
+    use crate::parsing::{Stop, parse};
 
     #[test]
     fn each_fault_is_refused() {

@@ -1,13 +1,13 @@
 //! Objects at each limit of document 01 and one past it.
 use crate::case::{Case, Extent, Patch, Records};
-use crate::deposit::{places, STREAM};
+use crate::deposit::{STREAM, places};
 use crate::patch_list::lend;
 use crate::rng::Rng;
 use crate::rules::{MOST_BYTES, MOST_NAME, MOST_RECORDS, MOST_SECTIONS};
 
 use super::draft::Draft;
 use super::patches::Lent;
-use super::sections::{relocation, DATA, TEXT};
+use super::sections::{DATA, TEXT, relocation};
 use super::words::code;
 
 pub fn limits() -> Vec<Case> {
@@ -170,8 +170,9 @@ mod tests {
             assert_eq!(case.judge, known(number, 0), "{}", case.aim);
         }
         assert!(at.iter().any(|case| case.deposit.len() == 16_777_216));
-        assert!(past
-            .iter()
-            .any(|case| case.deposit.len() == 16_777_216 + 512));
+        assert!(
+            past.iter()
+                .any(|case| case.deposit.len() == 16_777_216 + 512)
+        );
     }
 }

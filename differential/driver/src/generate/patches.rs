@@ -2,7 +2,7 @@
 use std::collections::HashMap;
 
 use crate::case::Patch;
-use crate::kinds::{kind, Kind};
+use crate::kinds::{Kind, kind};
 use crate::rng::Rng;
 
 use super::draft::{Draft, Symbol};

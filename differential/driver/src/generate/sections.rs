@@ -1,6 +1,6 @@
 //! Sections that are accepted, each with its symbols.
-use crate::case::{RelocationRecord, NONE};
-use crate::kinds::{kind, Kind};
+use crate::case::{NONE, RelocationRecord};
+use crate::kinds::{Kind, kind};
 use crate::rng::Rng;
 
 use super::draft::Draft;

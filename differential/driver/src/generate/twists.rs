@@ -1,6 +1,6 @@
 //! Changes to records that leave most objects accepted: shared and overlapping ranges, gaps in the indexes, other sizes.
-use crate::case::{Extent, Records, NONE};
-use crate::kinds::{kind, Kind};
+use crate::case::{Extent, NONE, Records};
+use crate::kinds::{Kind, kind};
 use crate::rng::Rng;
 use crate::rules::piece;
 

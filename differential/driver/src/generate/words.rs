@@ -1,5 +1,5 @@
 //! Names and instructions to draw from.
-use crate::kinds::{is_program, kind, Kind, ALONE, BARE, PAIRS, PREFIXES};
+use crate::kinds::{ALONE, BARE, Kind, PAIRS, PREFIXES, is_program, kind};
 use crate::rng::Rng;
 
 const SHORT: [&str; 14] = [
@@ -175,14 +175,18 @@ mod tests {
     fn every_variant_is_drawn_and_known() {
         let mut rng = Rng::new(1);
         let drawn: HashSet<Vec<u8>> = (0..5000).map(|_| program_name(&mut rng)).collect();
-        assert!(drawn
-            .iter()
-            .all(|name| is_program(name) && kind(name, 1, 8) == Kind::Program));
-        assert!(ALONE
-            .iter()
-            .chain(&BARE)
-            .chain(&PAIRS)
-            .all(|name| drawn.contains(name.as_bytes())));
+        assert!(
+            drawn
+                .iter()
+                .all(|name| is_program(name) && kind(name, 1, 8) == Kind::Program)
+        );
+        assert!(
+            ALONE
+                .iter()
+                .chain(&BARE)
+                .chain(&PAIRS)
+                .all(|name| drawn.contains(name.as_bytes()))
+        );
     }
 
     #[test]
@@ -190,9 +194,11 @@ mod tests {
         let mut rng = Rng::new(2);
         for _ in 0..2000 {
             assert!(near_prefix(&mut rng).iter().all(|b| (1..=127).contains(b)));
-            assert!(unknown_program_name(&mut rng)
-                .iter()
-                .all(|b| (1..=127).contains(b)));
+            assert!(
+                unknown_program_name(&mut rng)
+                    .iter()
+                    .all(|b| (1..=127).contains(b))
+            );
             assert!(symbol_name(&mut rng).iter().all(|b| (1..=127).contains(b)));
         }
     }
@@ -203,12 +209,14 @@ mod tests {
         assert_eq!(code(&mut rng, 7).len(), 56);
         let many = code(&mut rng, 2000);
         for immediate in 112..=115 {
-            assert!(many
-                .chunks(8)
-                .any(|slot| slot == [0x85, 0, 0, 0, immediate, 0, 0, 0]));
+            assert!(
+                many.chunks(8)
+                    .any(|slot| slot == [0x85, 0, 0, 0, immediate, 0, 0, 0])
+            );
         }
-        assert!(many
-            .chunks(8)
-            .any(|slot| slot[0] == 0x85 && slot[1] == 0x10 && slot[4] == 113));
+        assert!(
+            many.chunks(8)
+                .any(|slot| slot[0] == 0x85 && slot[1] == 0x10 && slot[4] == 113)
+        );
     }
 }

@@ -2,7 +2,7 @@
 use std::collections::{HashMap, HashSet};
 use std::ops::Range;
 
-use crate::case::{Extent, Records, NONE};
+use crate::case::{Extent, NONE, Records};
 use crate::rules::{broken, piece};
 
 pub fn without<T: Clone>(of: &[T], run: Range<usize>) -> Vec<T> {

@@ -4,7 +4,7 @@ mod edits;
 use std::ops::Range;
 
 use crate::case::{Case, Records};
-use crate::deposit::{lay_out, read, seal, BLOCK, STREAM};
+use crate::deposit::{BLOCK, STREAM, lay_out, read, seal};
 use crate::domain::{judge, known};
 use crate::patch_list::{lend, listed};
 
@@ -292,7 +292,7 @@ mod tests {
     use super::*;
     use crate::case::{Judge, NONE};
     use crate::generate;
-    use crate::kinds::{kind, Kind};
+    use crate::kinds::{Kind, kind};
     use crate::rng::Rng;
     use crate::rules::piece;
     use crate::sample::Sample;

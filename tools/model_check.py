@@ -1,0 +1,58 @@
+"""Holds recorded cases to tools/model.py.
+
+usage: model_check.py FOLDER
+
+FOLDER has the files stdin and stdout, in the form of crates/case_lines: the cases, and what the load call gave for each."""
+import os
+import sys
+
+import model
+from replay_cases import printed
+
+
+def unpacked(text):
+    """Bytes of a word: hexadecimal, `xx(n)` is xx and n more of it, `-` is nothing."""
+    out = bytearray()
+    at = 0
+    while text != "-" and at < len(text):
+        if text[at] == "(":
+            end = text.index(")", at)
+            out += out[-1:] * int(text[at + 1 : end])
+            at = end + 1
+        else:
+            out.append(int(text[at : at + 2], 16))
+            at += 2
+    return bytes(out)
+
+
+def expected(line):
+    name, deposit, entries, patches, rewrite, *lengths = line.split(" ")
+    numbers = [] if entries == "-" else [int(x) for x in entries.split(",")]
+    room = dict(zip(model.TABLES, map(int, lengths)))
+    return printed(name, unpacked(deposit), numbers, unpacked(patches), int(rewrite), room)
+
+
+def main():
+    if len(sys.argv) != 2:
+        print(__doc__)
+        return 2
+    with open(os.path.join(sys.argv[1], "stdin"), encoding="ascii") as f:
+        lines = f.read().splitlines()
+    with open(os.path.join(sys.argv[1], "stdout"), encoding="ascii") as f:
+        given = f.read()
+    at = 0
+    for line in lines:
+        text = expected(line)
+        if not given.startswith(text, at):
+            print("the model says\n%sthe load call\n%s" % (text, given[at : at + len(text) + 200]))
+            return 1
+        at += len(text)
+    if at != len(given):
+        print("more was written than the cases ask for")
+        return 1
+    print("%d cases: the model gives the same" % len(lines))
+    return 0
+
+
+if __name__ == "__main__":
+    sys.exit(main())
