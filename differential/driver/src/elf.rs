@@ -343,7 +343,7 @@ mod tests {
         o.records.sections[2].size = 40;
         o.records.relocations[1].size = 32;
         o.symbol("p", 1, 0, 8, 1)
-            .symbol("d", 2, 1, 2, 2)
+            .symbol("dd", 2, 1, 2, 2)
             .symbol("n", NONE, 0, 0, 0)
             .symbol("", 7, 0, 0, 0);
         o
@@ -396,6 +396,12 @@ mod tests {
             [1, 2, 3, 4].map(symbol),
             [(0x12, 1, 0), (0x11, 2, 1), (0x10, 0, 0), (0x10, 0xFEFF, 0)]
         );
+    }
+
+    #[test]
+    fn an_empty_section_is_no_nobits() {
+        let file = write(&Sample::default().program("xdp", b"").records);
+        assert_eq!(header(&file, 1), (b"xdp".to_vec(), 1, 6, 64, 0, 0, 0));
     }
 
     #[test]

@@ -259,6 +259,7 @@ fn damage(rng: &mut Rng, entries: &mut Vec<u64>, length: u64) -> &'static str {
 #[cfg(test)]
 mod tests {
     use super::*;
+    use crate::case::Judge;
     use crate::domain::{comparable, judge, known};
     use crate::patch_list::{lend, listed};
 
@@ -288,20 +289,10 @@ mod tests {
                 match *aim {
                     "19 several bearers" => assert_eq!(judged, known(19, 1)),
                     _ if std::str::from_utf8(&patch.name).is_err() => (),
-                    _ => assert!(
-                        comparable(
-                            &records,
-                            &[
-                                patch,
-                                Patch {
-                                    must_exist: true,
-                                    ..missing()
-                                }
-                            ]
-                        )
-                        .is_err(),
-                        "{aim}"
-                    ),
+                    _ => {
+                        let two = comparable(&records, &[patch, missing()]);
+                        assert_eq!(two, Err("several faulty entries"), "{aim}");
+                    }
                 }
             }
         }
@@ -310,7 +301,8 @@ mod tests {
     fn missing() -> Patch {
         Patch {
             name: b"missing".to_vec(),
-            ..Default::default()
+            data: vec![],
+            must_exist: true,
         }
     }
 
@@ -320,12 +312,12 @@ mod tests {
         let (draft, records) = (draft(), draft().records());
         let mut inside = 0;
         for _ in 0..1000 {
-            let (entries, patches) = {
-                let list = sound(&mut rng, &bearers(&draft));
-                packed(&mut rng, &list)
-            };
-            assert!(listed(&entries, &patches).is_some());
-            inside += usize::from(judge(&records, &entries, &patches) == crate::case::Judge::Crate);
+            let mut list = sound(&mut rng, &bearers(&draft));
+            let (entries, patches) = packed(&mut rng, &list);
+            assert_eq!(listed(&entries, &patches), Some(list.clone()));
+            inside += usize::from(judge(&records, &entries, &patches) == Judge::Crate);
+            list.push(missing());
+            assert_ne!(comparable(&records, &list), Err("several faulty entries"));
         }
         assert!(inside > 700, "{inside}");
     }
@@ -349,7 +341,7 @@ mod tests {
             assert!(aim.starts_with("18"));
             assert_eq!(listed(&entries, &patches), None, "{aim}");
             assert!(
-                matches!(judge(&records, &entries, &patches), crate::case::Judge::Known(refusal) if refusal.number == 18),
+                matches!(judge(&records, &entries, &patches), Judge::Known(refusal) if refusal.number == 18),
                 "{aim}"
             );
         }

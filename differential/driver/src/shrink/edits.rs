@@ -319,6 +319,9 @@ mod tests {
             [0, 16]
         );
         assert_eq!(broken(&fewer), None);
+        let one = without_relocations(&o.records, 0..2);
+        let last = one.sections.last().map(|x| x.relocations);
+        assert_eq!(last, Some(Extent { at: 0, length: 1 }));
     }
 
     #[test]

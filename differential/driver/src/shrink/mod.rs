@@ -291,6 +291,7 @@ fn resealed(deposit: &[u8]) -> Vec<u8> {
 mod tests {
     use super::*;
     use crate::case::{Judge, NONE};
+    use crate::deposit::stream;
     use crate::generate;
     use crate::kinds::{Kind, kind};
     use crate::rng::Rng;
@@ -320,18 +321,24 @@ mod tests {
         }
     }
 
+    /// Shrinks until nothing more can be done.
+    fn to_the_end(case: Case, fails: impl Fn(&Case) -> bool) -> Case {
+        let mut calls = 0;
+        let out = shrink(case, &mut |case| {
+            calls += 1;
+            agrees(case);
+            fails(case)
+        });
+        assert!(calls < TRIES);
+        out
+    }
+
     /// Shrinks the first few cases drawn that fail so.
     fn shrunk(seed: u64, fails: impl Fn(&Case) -> bool) -> Vec<Case> {
         let mut rng = Rng::new(seed);
         let cases = std::iter::from_fn(move || Some(generate::case(&mut rng))).take(20_000);
         let failing = cases.filter(|case| fails(case)).take(5);
-        let shrink_one = |case| {
-            shrink(case, &mut |case| {
-                agrees(case);
-                fails(case)
-            })
-        };
-        let out: Vec<Case> = failing.map(shrink_one).collect();
+        let out: Vec<Case> = failing.map(|case| to_the_end(case, &fails)).collect();
         assert_eq!(out.len(), 5);
         out
     }
@@ -448,17 +455,20 @@ mod tests {
     }
 
     #[test]
-    fn what_cannot_get_smaller_ends() {
-        let mut calls = 0;
+    fn bytes_that_can_be_read_get_records_and_lose_them() {
+        let mut o = Sample::default();
+        o.section("xdp", b"12345678");
+        let mut stream = stream(&o.records);
+        stream.resize(300, 0);
+        stream.push(1);
         let case = Case {
-            deposit: vec![1; BLOCK],
-            judge: known(1, 0),
+            deposit: seal(&stream),
+            judge: known(2, 0),
             ..empty()
         };
-        shrink(case, &mut |case| {
-            calls += 1;
-            case.deposit.len() == BLOCK
-        });
-        assert!(calls < 100, "{calls}");
+        let one_section =
+            |case: &Case| case.deposit.get(4) == Some(&1) && read(&case.deposit) != Err(1);
+        let out = to_the_end(case, one_section);
+        assert_eq!(out.deposit.iter().filter(|&&b| b != 0).count(), 2);
     }
 }
