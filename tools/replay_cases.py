@@ -1303,6 +1303,16 @@ def printed(name, deposit, entries, lent, rewrite, room):
     return out + "bytes " + "".join(packed(held["bytes"], "%02x")) + "\n"
 
 
+def crate_part(path):
+    """The lines that differential/record put at the end of a file, if it is there."""
+    if not os.path.exists(path):
+        return []
+    with open(path, encoding="ascii") as f:
+        lines = f.readlines()
+    first = next((k for k, line in enumerate(lines) if line.startswith("crate-")), len(lines))
+    return lines[first:]
+
+
 def main():
     if len(sys.argv) != 2:
         print(__doc__)
@@ -1312,8 +1322,11 @@ def main():
     if len(set(named)) != len(named):
         raise SystemExit("one name twice: %r" % sorted(x for x in set(named) if named.count(x) > 1))
     for file, text_of in (("stdin", line_of), ("stdout", printed)):
-        with open(os.path.join(sys.argv[1], file), "w", encoding="ascii", newline="\n") as f:
+        path = os.path.join(sys.argv[1], file)
+        recorded = crate_part(path)
+        with open(path, "w", encoding="ascii", newline="\n") as f:
             f.writelines(text_of(*case) for case in cases)
+            f.writelines(recorded)
     print("%d cases" % len(cases))
     return 0
 

@@ -10,6 +10,7 @@ use super::words::{bytes, code, program_name, symbol_name, unknown_program_name}
 
 pub struct Fault {
     pub aim: &'static str,
+    #[cfg_attr(not(test), expect(dead_code))]
     pub number: u32,
     pub make: fn(&mut Rng, &mut Draft),
 }
