@@ -114,3 +114,33 @@ pub struct Summary {
     pub relocations: u64,
     pub bytes: u64,
 }
+
+impl Summary {
+    /// The rows of each table, and the bytes.
+    pub fn counts(&self) -> [u64; 6] {
+        [
+            self.sections,
+            self.programs,
+            self.functions,
+            self.maps,
+            self.relocations,
+            self.bytes,
+        ]
+    }
+}
+
+/// The function table as numbers, seven a row.
+pub fn flat(functions: &[Function]) -> Vec<u64> {
+    let row = |f: &Function| {
+        [
+            f.section.into(),
+            f.address,
+            f.offset,
+            f.name_at,
+            f.name_length,
+            f.code_at,
+            f.code_length,
+        ]
+    };
+    functions.iter().flat_map(row).collect()
+}

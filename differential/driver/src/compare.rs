@@ -1,7 +1,7 @@
 //! Where our answer and what it left in the lent slices differ from what the crate says.
 use std::fmt::Debug;
 
-use crate::answer::{Answer, Catalogue, Function, Lent, Room, Summary};
+use crate::answer::{Answer, Catalogue, Lent, Room, Summary, flat};
 use crate::case::Refusal;
 use crate::lay;
 use crate::theirs::{Place, Theirs, Verdict};
@@ -158,8 +158,8 @@ fn tables(ours: &Lent, catalogue: &Catalogue) -> Option<String> {
             rows(
                 "functions",
                 &FUNCTION,
-                &numbers(&ours.functions),
-                &numbers(&theirs.functions),
+                &flat(&ours.functions),
+                &flat(&theirs.functions),
             )
         })
         .or_else(|| rows("maps", &MAP, &ours.maps, &theirs.maps))
@@ -172,21 +172,6 @@ fn tables(ours: &Lent, catalogue: &Catalogue) -> Option<String> {
             )
         })
         .or_else(|| bytes(&ours.bytes, &theirs.bytes, catalogue))
-}
-
-fn numbers(functions: &[Function]) -> Vec<u64> {
-    let row = |f: &Function| {
-        [
-            f.section.into(),
-            f.address,
-            f.offset,
-            f.name_at,
-            f.name_length,
-            f.code_at,
-            f.code_length,
-        ]
-    };
-    functions.iter().flat_map(row).collect()
 }
 
 fn rows(table: &str, fields: &[&str], ours: &[u64], theirs: &[u64]) -> Option<String> {

@@ -66,17 +66,9 @@ fn from_lengths(l: [usize; 6]) -> Room {
 
 /// The lent lengths that the catalogue takes.
 fn taken(s: &Summary) -> [usize; 6] {
-    let rows = [
-        s.sections,
-        s.programs,
-        s.functions,
-        s.maps,
-        s.relocations,
-        s.bytes,
-    ];
     let mut lengths = [0; 6];
-    for (k, length) in lengths.iter_mut().enumerate() {
-        *length = rows[k] as usize * WIDTHS[k];
+    for (k, rows) in s.counts().into_iter().enumerate() {
+        lengths[k] = rows as usize * WIDTHS[k];
     }
     lengths
 }
