@@ -13,6 +13,7 @@ mod objects;
 mod ours;
 mod parsing;
 mod patch_list;
+mod reach;
 mod record;
 mod rng;
 mod room;

@@ -1,10 +1,12 @@
 //! How often a run reached what.
-use std::collections::BTreeMap;
+use std::collections::{BTreeMap, BTreeSet};
 
 use crate::answer::Answer;
-use crate::case::{Case, Judge, Records};
-use crate::domain;
+use crate::case::{Case, Judge, Records, SectionRecord};
 use crate::hold::Run;
+use crate::kinds::{self, Kind, PREFIXES};
+use crate::rules::{broken, piece};
+use crate::{domain, reach};
 
 #[derive(Default)]
 pub struct Tally {
@@ -15,15 +17,13 @@ pub struct Tally {
     /// Variant, first and second value of each program that was listed.
     pub variants: BTreeMap<[u64; 3], u64>,
     pub kinds: BTreeMap<&'static str, u64>,
+    pub features: BTreeMap<&'static str, u64>,
+    /// How many instructions had an immediate that rewriting looks for, by opcode and register byte.
+    pub calls: BTreeMap<[u8; 2], u64>,
     /// Why cases that pass 1 to 3 are outside the domain of comparison.
     pub outside: BTreeMap<&'static str, u64>,
     pub aims: BTreeMap<&'static str, u64>,
 }
-
-/// Document 01's prefixes, in its order.
-const PREFIXES: [&str; 8] = [
-    "license", "version", "maps", ".maps", ".text", ".bss", ".data", ".rodata",
-];
 
 impl Tally {
     pub fn count(&mut self, case: &Case, run: &Run) {
@@ -49,8 +49,17 @@ impl Tally {
                 *self.variants.entry([row[2], row[3], row[4]]).or_default() += 1;
             }
         }
-        for kind in case.records.iter().flat_map(kinds) {
-            *self.kinds.entry(kind).or_default() += 1;
+        let Some(records) = case.records.as_ref().filter(|r| broken(r).is_none()) else {
+            return;
+        };
+        for section in &records.sections {
+            *self.kinds.entry(kind(records, section)).or_default() += 1;
+        }
+        for feature in reach::features(case, records) {
+            *self.features.entry(feature).or_default() += 1;
+        }
+        for call in reach::calls(case, records) {
+            *self.calls.entry(call).or_default() += 1;
         }
     }
 
@@ -67,6 +76,8 @@ impl Tally {
         sum(&mut self.refusals, other.refusals);
         sum(&mut self.variants, other.variants);
         sum(&mut self.kinds, other.kinds);
+        sum(&mut self.features, other.features);
+        sum(&mut self.calls, other.calls);
         sum(&mut self.outside, other.outside);
         sum(&mut self.aims, other.aims);
     }
@@ -90,6 +101,11 @@ impl Tally {
             variants
                 .map(|(v, n)| format!(" {v} {n}"))
                 .collect::<String>()
+        );
+        println!("reached:{}", listed(self.features.iter()));
+        println!(
+            "immediates 112 to 115 where rewriting is on: {}",
+            rewriting(&self.calls)
         );
         println!("outside the domain:{}", listed(self.outside.iter()));
         println!("made for:{}", listed(self.aims.iter()));
@@ -123,22 +139,34 @@ fn outside(case: &Case) -> Option<&'static str> {
     domain::comparable(records, list).err()
 }
 
-fn kinds(records: &Records) -> Vec<&'static str> {
-    records
-        .sections
+fn kind(records: &Records, section: &SectionRecord) -> &'static str {
+    let name = piece(&records.names, section.name);
+    let prefix = PREFIXES
         .iter()
-        .map(|s| {
-            let at = s.name.at as usize;
-            let name = records
-                .names
-                .get(at..at + s.name.length as usize)
-                .unwrap_or_default();
-            match PREFIXES.iter().find(|p| name.starts_with(p.as_bytes())) {
-                Some(prefix) => prefix,
-                None if name.starts_with(b".BTF") => ".BTF",
-                None if s.mark == 1 && s.size > 0 => "program",
-                None => "other",
-            }
-        })
-        .collect()
+        .find(|(p, _)| name.starts_with(p.as_bytes()));
+    match (prefix, kinds::kind(name, section.mark, section.size)) {
+        (Some((prefix, _)), _) => prefix,
+        (None, Kind::Program) => "program",
+        (None, Kind::BtfExt) => ".BTF.ext",
+        (None, _) if name == b".BTF" => ".BTF",
+        (None, _) => "other",
+    }
+}
+
+/// Of the instructions with an immediate that rewriting looks for: those that it changes, and how many bytes stood in the others' places.
+fn rewriting(calls: &BTreeMap<[u8; 2], u64>) -> String {
+    let changed = calls.get(&[0x85, 0]).copied().unwrap_or(0);
+    let all: u64 = calls.values().sum();
+    let opcodes: BTreeSet<u8> = calls.keys().map(|c| c[0]).collect();
+    let registers: BTreeSet<u8> = calls
+        .keys()
+        .filter(|c| c[0] == 0x85)
+        .map(|c| c[1])
+        .collect();
+    format!(
+        "{changed} changed, {} kept, with {} opcodes, and {} register bytes at 0x85",
+        all - changed,
+        opcodes.len(),
+        registers.len()
+    )
 }

@@ -146,6 +146,15 @@ pub fn code(rng: &mut Rng, slots: usize) -> Vec<u8> {
                 let second = *rng.pick(&[0, 0x85]);
                 out.extend(call(rng, second));
             }
+            3 => {
+                let opcode = rng.next() as u8;
+                out.extend(call(rng, opcode));
+            }
+            4 => {
+                let mut slot = call(rng, 0x85);
+                slot[1] = rng.next() as u8;
+                out.extend(slot);
+            }
             _ => {
                 let opcode = *rng.pick(&OPCODES);
                 out.extend(call(rng, opcode));
@@ -218,5 +227,14 @@ mod tests {
             many.chunks(8)
                 .any(|slot| slot[0] == 0x85 && slot[1] == 0x10 && slot[4] == 113)
         );
+    }
+
+    #[test]
+    fn code_has_every_opcode_and_register_byte() {
+        let many = code(&mut Rng::new(4), 60_000);
+        let opcodes: HashSet<u8> = many.chunks(8).map(|slot| slot[0]).collect();
+        let calls = many.chunks(8).filter(|slot| slot[0] == 0x85);
+        let registers: HashSet<u8> = calls.map(|slot| slot[1]).collect();
+        assert_eq!((opcodes.len(), registers.len()), (256, 256));
     }
 }
