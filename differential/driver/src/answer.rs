@@ -115,7 +115,34 @@ pub struct Summary {
     pub bytes: u64,
 }
 
+/// The widths of the tables' rows, in numbers; the function table is lent by rows, the bytes by bytes.
+const WIDTHS: [usize; 6] = [4, 7, 1, 27, 4, 1];
+
+impl Room {
+    /// By the six lengths.
+    pub fn of(lengths: [usize; 6]) -> Room {
+        let [sections, programs, functions, maps, relocations, bytes] = lengths;
+        Room {
+            sections,
+            programs,
+            functions,
+            maps,
+            relocations,
+            bytes,
+        }
+    }
+}
+
 impl Summary {
+    /// The lent lengths that the catalogue takes.
+    pub fn taken(&self) -> [usize; 6] {
+        let mut lengths = [0; 6];
+        for (k, rows) in self.counts().into_iter().enumerate() {
+            lengths[k] = rows as usize * WIDTHS[k];
+        }
+        lengths
+    }
+
     /// The rows of each table, and the bytes.
     pub fn counts(&self) -> [u64; 6] {
         [

@@ -10,9 +10,6 @@ pub struct Run {
     pub lent: Lent,
 }
 
-/// The widths of the tables' rows, in numbers; the function table is lent by rows, the bytes by bytes.
-const WIDTHS: [usize; 6] = [4, 7, 1, 27, 4, 1];
-
 /// What is wrong with our answer, if anything is.
 pub fn hold(case: &Case) -> Result<Run, String> {
     let room = lent_for(case);
@@ -49,32 +46,13 @@ fn ensure(holds: bool, otherwise: impl FnOnce() -> String) -> Result<(), String>
 fn lent_for(case: &Case) -> Room {
     match &case.records {
         Some(records) => room::enough(records),
-        None => from_lengths([64, 64, 8, 128, 64, 1024]),
+        None => Room::of([64, 64, 8, 128, 64, 1024]),
     }
-}
-
-fn from_lengths(l: [usize; 6]) -> Room {
-    Room {
-        sections: l[0],
-        programs: l[1],
-        functions: l[2],
-        maps: l[3],
-        relocations: l[4],
-        bytes: l[5],
-    }
-}
-
-/// The lent lengths that the catalogue takes.
-fn taken(s: &Summary) -> [usize; 6] {
-    let mut lengths = [0; 6];
-    for (k, rows) in s.counts().into_iter().enumerate() {
-        lengths[k] = rows as usize * WIDTHS[k];
-    }
-    lengths
 }
 
 fn zero_behind(summary: &Summary, lent: &Lent) -> Result<(), String> {
-    let behind = cut(lent, &taken(summary), true).ok_or("the summary counts more than was lent")?;
+    let behind =
+        cut(lent, &summary.taken(), true).ok_or("the summary counts more than was lent")?;
     ensure(compare::all_zero(&behind), || {
         "what is lent past the catalogue is not zero".into()
     })
@@ -118,8 +96,8 @@ fn finds_each(summary: &Summary, lent: &Lent) -> Result<(), String> {
 
 /// Lent exactly what the catalogue takes, the call gives it; with one element less of any, 24 and zeros.
 fn fits_exactly(case: &Case, summary: &Summary, lent: &Lent) -> Result<(), String> {
-    let exact = taken(summary);
-    let (answer, held) = ours::load(case, &from_lengths(exact), 0x5A);
+    let exact = summary.taken();
+    let (answer, held) = ours::load(case, &Room::of(exact), 0x5A);
     ensure(answer == Answer::Accepted(*summary), || {
         format!("lent exactly what it takes: {answer:?}")
     })?;
@@ -129,7 +107,7 @@ fn fits_exactly(case: &Case, summary: &Summary, lent: &Lent) -> Result<(), Strin
     for k in (0..6).filter(|&k| exact[k] > 0) {
         let mut less = exact;
         less[k] -= 1;
-        let (answer, held) = ours::load(case, &from_lengths(less), 0x5A);
+        let (answer, held) = ours::load(case, &Room::of(less), 0x5A);
         let full = Answer::Refused(Refusal {
             number: 24,
             section: 0,
@@ -194,14 +172,14 @@ pub fn by_crate(case: &Case) -> Theirs {
 /// They are the crate's where it judges and accepts. A refusal keeps our places, since the crate names few.
 pub fn recorded(case: &Case, run: &Run) -> (Room, Answer, Lent) {
     let Answer::Accepted(summary) = run.answer else {
-        let room = from_lengths([9, 15, 2, 28, 9, 41]);
+        let room = Room::of([9, 15, 2, 28, 9, 41]);
         return (room, run.answer, Lent::default());
     };
-    let mut lengths = taken(&summary);
+    let mut lengths = summary.taken();
     for (length, more) in lengths.iter_mut().zip([3, 3, 1, 3, 3, 5]) {
         *length += more;
     }
-    let room = from_lengths(lengths);
+    let room = Room::of(lengths);
     if case.judge != Judge::None
         && let Theirs::Accepted(catalogue) = by_crate(case)
     {

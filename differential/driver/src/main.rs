@@ -1,5 +1,6 @@
 //! The load call beside the crate aya-obj.
 mod answer;
+mod bench;
 mod case;
 mod compare;
 mod deposit;
@@ -38,6 +39,7 @@ const USAGE: &str = "driver random N SEED FOLDER: N cases drawn by SEED, those a
 driver record N SEED FOLDER: N cases with the crate's answers, as the program replay reads them, into FOLDER
 driver outside N SEED FOLDER: N cases that nobody judges with our answers, for tools/model_check.py, into FOLDER
 driver objects FOLDER: each NAME.o in FOLDER beside its NAME.deposit
+driver bench FOLDER: how long both take, on such objects and on made ones; built for release
 A difference is shrunk and saved in FOLDER, and the exit status is 1.";
 
 /// A load takes up to 1.5 MB of stack.
@@ -72,6 +74,7 @@ fn main() -> ExitCode {
                 by_nobody,
             ))
         }
+        ["bench", folder] => Some(bench::run(Path::new(folder))),
         ["objects", folder] => Some(objects::run(Path::new(folder))),
         _ => None,
     };

@@ -10,7 +10,7 @@ use crate::theirs::{Given, Theirs};
 use crate::{compare, ours, theirs};
 
 /// Room for what such an object takes.
-const ROOM: Room = Room {
+pub const ROOM: Room = Room {
     sections: 1 << 14,
     programs: 1 << 14,
     functions: 1 << 12,
@@ -79,7 +79,7 @@ fn name(file: &Path) -> String {
         .into_owned()
 }
 
-fn objects(folder: &Path) -> std::io::Result<Vec<PathBuf>> {
+pub fn objects(folder: &Path) -> std::io::Result<Vec<PathBuf>> {
     let mut files: Vec<PathBuf> = fs::read_dir(folder)?
         .map(|e| Ok(e?.path()))
         .collect::<std::io::Result<_>>()?;

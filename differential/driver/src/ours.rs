@@ -56,6 +56,10 @@ unsafe extern "C" {
 /// Loads into tables and bytes of these lengths that hold `fill` before the call.
 pub fn load(case: &Case, room: &Room, fill: u8) -> (Answer, Lent) {
     let mut lent = filled(room, fill);
+    (load_into(case, &mut lent), lent)
+}
+
+pub fn load_into(case: &Case, lent: &mut Lent) -> Answer {
     let mut answer = LoadAnswer::default();
     // Each slice goes as its pointer and its length; no two of those that are written overlap.
     unsafe {
@@ -82,7 +86,7 @@ pub fn load(case: &Case, room: &Room, fill: u8) -> (Answer, Lent) {
             &mut answer,
         );
     }
-    (answer.told(), lent)
+    answer.told()
 }
 
 /// The row of the function at an address of a section, among the first `count`.
@@ -93,7 +97,7 @@ pub fn find(functions: &[Function], count: usize, section: u32, address: u64) ->
     }
 }
 
-fn filled(room: &Room, fill: u8) -> Lent {
+pub fn filled(room: &Room, fill: u8) -> Lent {
     let number = u64::from_le_bytes([fill; 8]);
     let row = Function {
         section: number as u32,
