@@ -1,3 +1,4 @@
 -- What the look-up in the function table of an accepted load finds.
 pub mod Rising
 pub mod Finds
+pub mod Worked
