@@ -85,7 +85,7 @@ impl Tally {
     pub fn print(&self) {
         let accepted = self.refusals.get(&0).copied().unwrap_or(0);
         println!(
-            "answers: accepted {accepted}{}",
+            "answers: accepted {accepted},{}",
             listed(self.refusals.iter().filter(|(n, _)| **n != 0))
         );
         println!(
