@@ -24,11 +24,11 @@ fn load_small(
     relocations: &mut [u64],
     bytes: &mut [u8],
 ) -> Answer
-    requires { ⌜ length (now d) ≤ 8192 ⌝ }
+    requires { ⌜ length (now d) ≤ 16384 ⌝ }
     ensures { λ r. ⌜ Loads (loadOf (now (d .entry)) (now (entries .entry)) (now (patches .entry)) rewrite (lentRoom (length (now (sections .entry))) (length (now (programs .entry))) (length (now (functions .entry))) (length (now (maps .entry))) (length (now (relocations .entry))) (length (now (bytes .entry))))) r (now (sections .exit)) (now (programs .exit)) (now (functions .exit)) (now (maps .exit)) (now (relocations .exit)) (now (bytes .exit)) ⌝ }
 {
     let room = functions.len();
-    let mut order = [0u32; 512];
+    let mut order = [0u32; 1024];
     let loaded = load_core(
         d,
         entries,
@@ -114,9 +114,9 @@ fn load_large(
 }
 
 fn is_small(d: &[u8]) -> bool
-    ensures { λ r. ⌜ r ≡ leb (length (now (d .entry))) 8192 ⌝ }
+    ensures { λ r. ⌜ r ≡ leb (length (now (d .entry))) 16384 ⌝ }
 {
-    d.len() <= 8192
+    d.len() <= 16384
 }
 
 fn is_medium(d: &[u8]) -> bool

@@ -220,15 +220,15 @@ fn load_small(
     bytes: &mut [u8],
     f: &mut [u32],
 ) -> Loaded
-    requires { ⌜ (length (now d) ≤ 8192) × Readable (now d) 4 h × (length (now f) ≡ h .symbols) × Sized room (now sections) (now programs) (now maps) (now relocations) (now bytes) × (room .relocations < 2 ^ 64) ⌝ }
+    requires { ⌜ (length (now d) ≤ 16384) × Readable (now d) 4 h × (length (now f) ≡ h .symbols) × Sized room (now sections) (now programs) (now maps) (now relocations) (now bytes) × (room .relocations < 2 ^ 64) ⌝ }
     ensures { λ r. ⌜ Opens (now (d .entry)) (room .functions) (outcome (roomOf room) (load (objectIn (now (d .entry)) 4 h) (patchesOf (now (entries .entry)) (now (patches .entry))) rewrite)) r (now (sections .exit)) (now (programs .exit)) (now (maps .exit)) (now (relocations .exit)) (now (bytes .exit)) (now (f .exit)) ⌝ }
 {
-    let mut s = [0u32; 512];
-    let mut p = [0u32; 512];
-    let mut m = [0u32; 512];
-    let mut tmp = [0u32; 512];
-    let mut symbols = [0u32; 512];
-    let mut by = [0u32; 512];
+    let mut s = [0u32; 1024];
+    let mut p = [0u32; 1024];
+    let mut m = [0u32; 1024];
+    let mut tmp = [0u32; 1024];
+    let mut symbols = [0u32; 1024];
+    let mut by = [0u32; 1024];
     load_opened(
         d,
         h,
@@ -360,7 +360,7 @@ fn load_sized(
     requires { ⌜ Readable (now d) 4 h × (length (now f) ≡ h .symbols) × Sized room (now sections) (now programs) (now maps) (now relocations) (now bytes) × (room .relocations < 2 ^ 64) ⌝ }
     ensures { λ r. ⌜ Opens (now (d .entry)) (room .functions) (outcome (roomOf room) (load (objectIn (now (d .entry)) 4 h) (patchesOf (now (entries .entry)) (now (patches .entry))) rewrite)) r (now (sections .exit)) (now (programs .exit)) (now (maps .exit)) (now (relocations .exit)) (now (bytes .exit)) (now (f .exit)) ⌝ }
 {
-    if d.len() <= 8192 {
+    if d.len() <= 16384 {
         return load_small(
             d,
             h,

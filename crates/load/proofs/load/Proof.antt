@@ -1,4 +1,4 @@
--- `load::load` meets its contract: `Choice.antt`'s walk, at 8192 bytes.
+-- `load::load` meets its contract: `Choice.antt`'s walk, at 16384 bytes.
 use contract.Running.{givenOf, tables, tablesOf}
 use denote.Triple.Spec.{tripleOf}
 use denote.Triple.Table.{entered, cited}
@@ -22,7 +22,7 @@ unfolding code.routine tablesOf
 load-spec 𝓤 H 𝓜 𝓖 𝓡 =
     entered 𝓤 H (tripleOf 𝓤 H (𝓖 .A) load′.signature (load′.spec 𝓤 H (𝓖 .A) (𝓜 .mem) (𝓡 .run)))
     (tables 𝓤 H 𝓜 𝓡 code.env .C) (tables 𝓤 H 𝓜 𝓡 code.env .Λ) #load code.function (code.unfolded 𝓤 H 𝓜 𝓡)
-    (chosen 𝓤 H (𝓖 .A) (givenOf 𝓤 H 𝓜 𝓖) 8192 #is-small #load-small #load-more (tablesOf 𝓤 H 𝓜 (tables 𝓤 H 𝓜 𝓡 code.env))
-    (cited 𝓤 H (TestAt 𝓤 H (𝓖 .A) (givenOf 𝓤 H 𝓜 𝓖) 8192) 𝓜 𝓡 code.env #is-small is-small-def.routine code.calls-load·is-small (is-small-thm.met 𝓤 H 𝓜 𝓖 𝓡))
-    (cited 𝓤 H (LoadsAt 𝓤 H (𝓖 .A) (givenOf 𝓤 H 𝓜 𝓖) (most 𝓤 8192)) 𝓜 𝓡 code.env #load-small load-small-def.routine code.calls-load·load-small (load-small-thm.met 𝓤 H 𝓜 𝓖 𝓡))
+    (chosen 𝓤 H (𝓖 .A) (givenOf 𝓤 H 𝓜 𝓖) 16384 #is-small #load-small #load-more (tablesOf 𝓤 H 𝓜 (tables 𝓤 H 𝓜 𝓡 code.env))
+    (cited 𝓤 H (TestAt 𝓤 H (𝓖 .A) (givenOf 𝓤 H 𝓜 𝓖) 16384) 𝓜 𝓡 code.env #is-small is-small-def.routine code.calls-load·is-small (is-small-thm.met 𝓤 H 𝓜 𝓖 𝓡))
+    (cited 𝓤 H (LoadsAt 𝓤 H (𝓖 .A) (givenOf 𝓤 H 𝓜 𝓖) (most 𝓤 16384)) 𝓜 𝓡 code.env #load-small load-small-def.routine code.calls-load·load-small (load-small-thm.met 𝓤 H 𝓜 𝓖 𝓡))
     (cited 𝓤 H (LoadsAt 𝓤 H (𝓖 .A) (givenOf 𝓤 H 𝓜 𝓖) (nought 𝓤)) 𝓜 𝓡 code.env #load-more load-more-def.routine code.calls-load·load-more (load-more-thm.met 𝓤 H 𝓜 𝓖 𝓡)))

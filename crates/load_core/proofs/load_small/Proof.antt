@@ -34,7 +34,7 @@ load-opened-requires c κs =
     let i = r .records-inside in
     let l = z .pre .0 in (
       r,
-      scratch-of (a .h) _ _ (now (a .f)) _ _ _ _ 512 512 512 512 512 512 (length-replicate {A = ℕ} 512 0) (length-replicate {A = ℕ} 512 0) (length-replicate {A = ℕ} 512 0) (length-replicate {A = ℕ} 512 0) (length-replicate {A = ℕ} 512 0) (length-replicate {A = ℕ} 512 0) (z .pre .2) (r .few-symbols)
+      scratch-of (a .h) _ _ (now (a .f)) _ _ _ _ 1024 1024 1024 1024 1024 1024 (length-replicate {A = ℕ} 1024 0) (length-replicate {A = ℕ} 1024 0) (length-replicate {A = ℕ} 1024 0) (length-replicate {A = ℕ} 1024 0) (length-replicate {A = ℕ} 1024 0) (length-replicate {A = ℕ} 1024 0) (z .pre .2) (r .few-symbols)
           (omega (arith, i, l, r .few-sections, r .few-symbols, r .few-relocations), omega (arith, i, l, r .few-sections, r .few-symbols, r .few-relocations), omega (arith, i, l, r .few-sections, r .few-symbols, r .few-relocations), omega (arith, i, l, r .few-sections, r .few-symbols, r .few-relocations), omega (arith, i, l, r .few-sections, r .few-symbols, r .few-relocations), omega (arith, i, l, r .few-sections, r .few-symbols, r .few-relocations), omega (arith, i, l, r .few-sections, r .few-symbols, r .few-relocations), omega (arith, i, l, r .few-sections, r .few-symbols, r .few-relocations), omega (arith, i, l, r .few-sections, r .few-symbols, r .few-relocations), omega arith, omega arith, omega arith),
       z .pre .3,
       z .pre .4,
