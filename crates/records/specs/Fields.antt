@@ -5,7 +5,7 @@ use Prim.Native.Nat.{ℕ, suc, _+_, _/_, _%_, _<_, _≤_}
 use native.Mathlib.Omega.{arith}
 use lib.ListN.{getD}
 use Rattle.model.specs.Bytes.{part, little}
-use Rattle.model.specs.Deposit.{headOf, extent, sectionRecord, symbolRecord, relocationRecord}
+use Rattle.model.specs.Deposit.{headOf, extent, sectionRecord, symbolRecord}
 use Rattle.stream.specs.Stream.{byteAt, bytesAt}
 use Rattle.stream.specs.Laws.{getD-bytes, part-bytes}
 use Rattle.stream.specs.Fields.{little-first}
@@ -85,25 +85,6 @@ module _ (d : List ℕ) (gap p : ℕ) (small : (k : ℕ) → byteAt d gap k < 25
         kind = (byte d gap p 40 32 (omega arith) ∙ k₀) i;
         definition = (byte d gap p 40 33 (omega arith) ∙ k₁) i;
         reserved = (num d gap p 40 34 6 (omega arith) ∙ sym h₂) i;
-      }
-
-  -- size and reserved bytes of a relocation are one number of four bytes
-  pub relocation-fields : (last : ℕ) → last ≡ little (bytesAt d gap (p + 12) 4) → relocationRecord (bytesAt d gap p 16) ≡ record {
-    offset = little (bytesAt d gap p 8);
-    symbol = record { 0 = little (bytesAt d gap (p + 8) 4) };
-    size = last % 256;
-    reserved = last / 256;
-  }
-  unfolding relocationRecord
-  relocation-fields last e =
-      let e₁ : p + 12 + 1 ≡ p + 13 = omega arith in
-      let h₁ : last / 256 ≡ little (bytesAt d gap (p + 13) 3) = rw (e, ← e₁) (high d gap (p + 12) small 3) in
-      let k₀ : byteAt d gap (p + 12) ≡ last % 256 = rw e (sym (low d gap (p + 12) small 3)) in
-      λ i. record {
-        offset = first d gap p 16 8 (omega arith) i;
-        symbol = record { 0 = num d gap p 16 8 4 (omega arith) i };
-        size = (byte d gap p 16 12 (omega arith) ∙ k₀) i;
-        reserved = (num d gap p 16 13 3 (omega arith) ∙ sym h₁) i;
       }
 
 -- the head begins the stream

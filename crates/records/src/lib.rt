@@ -1,8 +1,10 @@
 // The head and the records of a deposit, by number, and the walk over record numbers.
 ghost use mathlib.Core.Path.{_≡_};
 ghost use Prim.Native.Nat.{_+_, _^_, _<_, _≤_};
-ghost use Rattle.model.specs.Deposit.{endOf};
-ghost use Rattle.records.specs.Records.{headAt, extentAt, symbolsAt, relocationsAt, namesAt, dataAt, sectionAt, symbolAt, relocationAt, cursor, stepOf};
+ghost use lib.ListN.{length};
+ghost use Rattle.model.specs.Bytes.{u32};
+ghost use Rattle.model.specs.Deposit.{endOf, extent as extentOf, sectionRecord, symbolRecord, relocationRecord};
+ghost use Rattle.records.specs.Records.{headAt, symbolsAt, relocationsAt, namesAt, dataAt, sectionAt, symbolAt, relocationAt, cursor, stepOf};
 use model::Extent;
 use model::Head;
 use model::RelocationRecord;
@@ -10,7 +12,12 @@ use model::SectionIndex;
 use model::SectionRecord;
 use model::SymbolIndex;
 use model::SymbolRecord;
+use stream::Spot;
+use stream::copy_bytes;
+use stream::eight;
+use stream::four;
 use stream::size;
+use stream::spot_of;
 use stream::u32_at;
 use stream::u64_at;
 
@@ -29,13 +36,28 @@ pub fn head(d: &[u8], gap: usize) -> Head
     }
 }
 
-fn extent(d: &[u8], gap: usize, p: usize) -> Extent
-    requires { ⌜ (gap ≤ 4) × (p < 2 ^ 60) ⌝ }
-    ensures { λ r. ⌜ r ≡ extentAt (now (d .entry)) gap p ⌝ }
+fn extent(s: &[u8], k: usize) -> Extent
+    requires { ⌜ k + 8 ≤ length (now s) ⌝ }
+    ensures { λ r. ⌜ r ≡ extentOf (u32 (now (s .entry)) k) (u32 (now (s .entry)) (k + 4)) ⌝ }
 {
     Extent {
-        at: u32_at(d, gap, p),
-        length: u32_at(d, gap, p + 4),
+        at: four(s, k),
+        length: four(s, k + 4),
+    }
+}
+
+fn section_of(s: &[u8]) -> SectionRecord
+    requires { ⌜ length (now s) ≡ 48 ⌝ }
+    ensures { λ r. ⌜ r ≡ sectionRecord (now (s .entry)) ⌝ }
+{
+    SectionRecord {
+        index: SectionIndex(four(s, 0)),
+        mark: four(s, 4),
+        name: extent(s, 8),
+        address: eight(s, 16),
+        size: eight(s, 24),
+        bytes: extent(s, 32),
+        relocations: extent(s, 40),
     }
 }
 
@@ -45,14 +67,16 @@ pub fn section(d: &[u8], gap: usize, i: u32) -> SectionRecord
     ensures { λ r. ⌜ r ≡ sectionAt (now (d .entry)) gap i ⌝ }
 {
     let p = 32 + 48 * size(i);
-    SectionRecord {
-        index: SectionIndex(u32_at(d, gap, p)),
-        mark: u32_at(d, gap, p + 4),
-        name: extent(d, gap, p + 8),
-        address: u64_at(d, gap, p + 16),
-        size: u64_at(d, gap, p + 24),
-        bytes: extent(d, gap, p + 32),
-        relocations: extent(d, gap, p + 40),
+    match spot_of(d, gap, p, 48) {
+        Spot::Together(at) => {
+            let end = at + 48;
+            section_of(&d[at..end])
+        }
+        Spot::Apart => {
+            let mut s = [0u8; 48];
+            copy_bytes(d, gap, p, &mut s);
+            section_of(&s)
+        }
     }
 }
 
@@ -87,23 +111,52 @@ pub fn end_of(h: Head) -> usize
     data_at(h) + size(h.bytes)
 }
 
+fn symbol_of(s: &[u8]) -> SymbolRecord
+    requires { ⌜ length (now s) ≡ 40 ⌝ }
+    ensures { λ r. ⌜ r ≡ symbolRecord (now (s .entry)) ⌝ }
+{
+    SymbolRecord {
+        index: SymbolIndex(four(s, 0)),
+        section: SectionIndex(four(s, 4)),
+        name: extent(s, 8),
+        address: eight(s, 16),
+        size: eight(s, 24),
+        kind: s[32],
+        definition: s[33],
+        // Behind kind and definition.
+        reserved: eight(s, 32) / 65536,
+    }
+}
+
 // Symbol record i, counted from 0.
 pub fn symbol(d: &[u8], gap: usize, h: Head, i: u32) -> SymbolRecord
     requires { ⌜ gap ≤ 4 ⌝ }
     ensures { λ r. ⌜ r ≡ symbolAt (now (d .entry)) gap h i ⌝ }
 {
     let p = symbols_at(h) + 40 * size(i);
-    // Kind, definition and the reserved bytes.
-    let last = u64_at(d, gap, p + 32);
-    SymbolRecord {
-        index: SymbolIndex(u32_at(d, gap, p)),
-        section: SectionIndex(u32_at(d, gap, p + 4)),
-        name: extent(d, gap, p + 8),
-        address: u64_at(d, gap, p + 16),
-        size: u64_at(d, gap, p + 24),
-        kind: (last % 256) as u8,
-        definition: (last / 256 % 256) as u8,
-        reserved: last / 65536,
+    match spot_of(d, gap, p, 40) {
+        Spot::Together(at) => {
+            let end = at + 40;
+            symbol_of(&d[at..end])
+        }
+        Spot::Apart => {
+            let mut s = [0u8; 40];
+            copy_bytes(d, gap, p, &mut s);
+            symbol_of(&s)
+        }
+    }
+}
+
+fn relocation_of(s: &[u8]) -> RelocationRecord
+    requires { ⌜ length (now s) ≡ 16 ⌝ }
+    ensures { λ r. ⌜ r ≡ relocationRecord (now (s .entry)) ⌝ }
+{
+    RelocationRecord {
+        offset: eight(s, 0),
+        symbol: SymbolIndex(four(s, 8)),
+        size: s[12],
+        // Behind the size.
+        reserved: four(s, 12) / 256,
     }
 }
 
@@ -113,13 +166,16 @@ pub fn relocation(d: &[u8], gap: usize, h: Head, i: u32) -> RelocationRecord
     ensures { λ r. ⌜ r ≡ relocationAt (now (d .entry)) gap h i ⌝ }
 {
     let p = relocations_at(h) + 16 * size(i);
-    // The size and the reserved bytes.
-    let last = u32_at(d, gap, p + 12);
-    RelocationRecord {
-        offset: u64_at(d, gap, p),
-        symbol: SymbolIndex(u32_at(d, gap, p + 8)),
-        size: (last % 256) as u8,
-        reserved: last / 256,
+    match spot_of(d, gap, p, 16) {
+        Spot::Together(at) => {
+            let end = at + 16;
+            relocation_of(&d[at..end])
+        }
+        Spot::Apart => {
+            let mut s = [0u8; 16];
+            copy_bytes(d, gap, p, &mut s);
+            relocation_of(&s)
+        }
     }
 }
 

@@ -1,10 +1,11 @@
--- `records::relocation` meets its contract: its fields are the numbers that were read, the last ones taken from one number.
-use Prim.Native.Nat.{ℕ, _+_, _*_, _<_}
-use native.Mathlib.Omega.{arith}
+-- `records::relocation` meets its contract: the bytes of its record stand together, or are copied so.
+use mathlib.Core.Path.{subst}
+use Prim.Native.Nat.{_+_, _*_}
 use denote.Ref.{now}
-use Rattle.stream.specs.Stream.{place, byteAt}
+use native.Mathlib.Omega.{arith}
+use Rattle.stream.specs.declared.Spot.{Spot}
+use Rattle.stream.specs.Laws.{Stands, lent}
 use Rattle.records.specs.Records.{relocationAt}
-use Rattle.records.specs.Fields.{relocation-fields}
 use borrow.Author.Needs.{needs}
 use Rattle.records.proofs.relocation.Statement.{statement}
 use Rattle.records.proofs.relocation.Tie as tie
@@ -21,31 +22,56 @@ mul-p c = search needs
 add-p : tie.Need-add-p
 add-p c = search needs
 
-add-u32-at : tie.Need-add-u32-at
-add-u32-at c = search needs
+spot-of-requires : tie.Need-spot-of-requires
+spot-of-requires c κs = search needs
 
-u32-at-requires : tie.Need-u32-at-requires
-u32-at-requires c κs = search needs
+enum-known-at : tie.Need-enum-known-at
+enum-known-at c = search needs
 
-u64-at-requires : tie.Need-u64-at-requires
-u64-at-requires c κs = search needs
+-- the record's bytes stand together
+together : (c : tie.After-known-told)
+    → (let k = c .before .before .before .before in
+    let a = k .before .before .before .args in
+    Stands (now (a .d)) (a .gap) (k .before .relocations-at .result + 16 * k .size .result) 16 (Spot.Together (c .before .at .given .0 .0)))
+together c = subst (Stands _ _ _ 16) (c .before .at .given .1) (c .before .before .before .spot-of .ensures)
 
-add-u32-at-2 : tie.Need-add-u32-at-2
-add-u32-at-2 c = search needs
+add-end : tie.Need-add-end
+add-end c = omega (arith, together c .0)
 
-u32-at-requires-2 : tie.Need-u32-at-requires-2
-u32-at-requires-2 c κs = search needs
+sub-relocation-of : tie.Need-sub-relocation-of
+sub-relocation-of c = search needs
 
-cast-t14 : tie.Need-cast-t14
-cast-t14 c = search needs
+part-relocation-of-start : tie.Need-part-relocation-of-start
+part-relocation-of-start c = search needs
+
+part-relocation-of-end : tie.Need-part-relocation-of-end
+part-relocation-of-end c = search (needs, together c)
+
+relocation-of-requires : tie.Need-relocation-of-requires
+relocation-of-requires c κs = search needs
+
+enum-told : tie.Need-enum-told
+enum-told c = search needs
+
+slice-aggregate-copy-bytes : tie.Need-slice-aggregate-copy-bytes
+slice-aggregate-copy-bytes c = search needs
+
+copy-bytes-requires : tie.Need-copy-bytes-requires
+copy-bytes-requires c κs = search needs
+
+slice-aggregate-relocation-of : tie.Need-slice-aggregate-relocation-of
+slice-aggregate-relocation-of c = search needs
+
+relocation-of-requires-2 : tie.Need-relocation-of-requires-2
+relocation-of-requires-2 c κs = search needs
 
 returns : tie.Need-returns
-unfolding relocationAt byteAt
-returns c =
-    let a = c .before .before .before .before .before .before .args in
-    let p : ℕ = c .before .before .before .before .relocations-at .result + 16 * c .before .before .before .size .result in
-    let small : (k : ℕ) → byteAt (now (a .d)) (a .gap) k < 256 = λ k. omega (arith, c .before .before .before .before .before .shared-slice-known .given (place (a .gap) k)) in
-    cc (relocation-fields (now (a .d)) (a .gap) p small (c .before .before .u32-at .result) (c .before .before .u32-at .ensures))
+unfolding relocationAt
+returns c = cc (lent _ _ _ 16 _ (together (c .before .before)))
+
+returns-2 : tie.Need-returns-2
+unfolding relocationAt
+returns-2 c = cc
 
 pub relocation-spec : {M : Type 1} → statement M
 relocation-spec =
@@ -55,10 +81,17 @@ relocation-spec =
     size-requires
     mul-p
     add-p
-    add-u32-at
-    u32-at-requires
-    u64-at-requires
-    add-u32-at-2
-    u32-at-requires-2
-    cast-t14
-    returns)
+    spot-of-requires
+    enum-known-at
+    add-end
+    sub-relocation-of
+    part-relocation-of-start
+    part-relocation-of-end
+    relocation-of-requires
+    enum-told
+    slice-aggregate-copy-bytes
+    copy-bytes-requires
+    slice-aggregate-relocation-of
+    relocation-of-requires-2
+    returns
+    returns-2)

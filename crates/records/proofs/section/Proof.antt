@@ -1,8 +1,11 @@
--- `records::section` meets its contract: its fields are the numbers that were read.
-use denote.Ref.{now}
+-- `records::section` meets its contract: the bytes of its record stand together, or are copied so.
+use mathlib.Core.Path.{subst}
 use Prim.Native.Nat.{_+_, _*_}
+use denote.Ref.{now}
+use native.Mathlib.Omega.{arith}
+use Rattle.stream.specs.declared.Spot.{Spot}
+use Rattle.stream.specs.Laws.{Stands, lent}
 use Rattle.records.specs.Records.{sectionAt}
-use Rattle.records.specs.Fields.{section-fields}
 use borrow.Author.Needs.{needs}
 use Rattle.records.proofs.section.Statement.{statement}
 use Rattle.records.proofs.section.Tie as tie
@@ -16,50 +19,56 @@ mul-p c = search needs
 add-p : tie.Need-add-p
 add-p c = search needs
 
-u32-at-requires : tie.Need-u32-at-requires
-u32-at-requires c κs = search needs
+spot-of-requires : tie.Need-spot-of-requires
+spot-of-requires c κs = search needs
 
-add-u32-at : tie.Need-add-u32-at
-add-u32-at c = search needs
+enum-known-at : tie.Need-enum-known-at
+enum-known-at c = search needs
 
-u32-at-requires-2 : tie.Need-u32-at-requires-2
-u32-at-requires-2 c κs = search needs
+-- the record's bytes stand together
+together : (c : tie.After-known-told)
+    → (let k = c .before .before .before .before in
+    let a = k .before .before .args in
+    Stands (now (a .d)) (a .gap) (32 + 48 * k .size .result) 48 (Spot.Together (c .before .at .given .0 .0)))
+together c = subst (Stands _ _ _ 48) (c .before .at .given .1) (c .before .before .before .spot-of .ensures)
 
-add-extent : tie.Need-add-extent
-add-extent c = search needs
+add-end : tie.Need-add-end
+add-end c = omega (arith, together c .0)
 
-extent-requires : tie.Need-extent-requires
-extent-requires c κs = search needs
+sub-section-of : tie.Need-sub-section-of
+sub-section-of c = search needs
 
-add-u64-at : tie.Need-add-u64-at
-add-u64-at c = search needs
+part-section-of-start : tie.Need-part-section-of-start
+part-section-of-start c = search needs
 
-u64-at-requires : tie.Need-u64-at-requires
-u64-at-requires c κs = search needs
+part-section-of-end : tie.Need-part-section-of-end
+part-section-of-end c = search (needs, together c)
 
-add-u64-at-2 : tie.Need-add-u64-at-2
-add-u64-at-2 c = search needs
+section-of-requires : tie.Need-section-of-requires
+section-of-requires c κs = search needs
 
-u64-at-requires-2 : tie.Need-u64-at-requires-2
-u64-at-requires-2 c κs = search needs
+enum-told : tie.Need-enum-told
+enum-told c = search needs
 
-add-extent-2 : tie.Need-add-extent-2
-add-extent-2 c = search needs
+slice-aggregate-copy-bytes : tie.Need-slice-aggregate-copy-bytes
+slice-aggregate-copy-bytes c = search needs
 
-extent-requires-2 : tie.Need-extent-requires-2
-extent-requires-2 c κs = search needs
+copy-bytes-requires : tie.Need-copy-bytes-requires
+copy-bytes-requires c κs = search needs
 
-add-extent-3 : tie.Need-add-extent-3
-add-extent-3 c = search needs
+slice-aggregate-section-of : tie.Need-slice-aggregate-section-of
+slice-aggregate-section-of c = search needs
 
-extent-requires-3 : tie.Need-extent-requires-3
-extent-requires-3 c κs = search needs
+section-of-requires-2 : tie.Need-section-of-requires-2
+section-of-requires-2 c κs = search needs
 
 returns : tie.Need-returns
 unfolding sectionAt
-returns c =
-    let a = c .before .before .before .before .before .before .before .before .before .args in
-    cc (section-fields (now (a .d)) (a .gap) (32 + 48 * c .before .before .before .before .before .before .before .size .result))
+returns c = cc (lent _ _ _ 48 _ (together (c .before .before)))
+
+returns-2 : tie.Need-returns-2
+unfolding sectionAt
+returns-2 c = cc
 
 pub section-spec : {M : Type 1} → statement M
 section-spec =
@@ -68,17 +77,17 @@ section-spec =
     size-requires
     mul-p
     add-p
-    u32-at-requires
-    add-u32-at
-    u32-at-requires-2
-    add-extent
-    extent-requires
-    add-u64-at
-    u64-at-requires
-    add-u64-at-2
-    u64-at-requires-2
-    add-extent-2
-    extent-requires-2
-    add-extent-3
-    extent-requires-3
-    returns)
+    spot-of-requires
+    enum-known-at
+    add-end
+    sub-section-of
+    part-section-of-start
+    part-section-of-end
+    section-of-requires
+    enum-told
+    slice-aggregate-copy-bytes
+    copy-bytes-requires
+    slice-aggregate-section-of
+    section-of-requires-2
+    returns
+    returns-2)

@@ -1,10 +1,11 @@
--- `records::symbol` meets its contract: its fields are the numbers that were read, the last ones taken from one number.
-use Prim.Native.Nat.{ℕ, _+_, _*_, _<_}
-use native.Mathlib.Omega.{arith}
+-- `records::symbol` meets its contract: the bytes of its record stand together, or are copied so.
+use mathlib.Core.Path.{subst}
+use Prim.Native.Nat.{_+_, _*_}
 use denote.Ref.{now}
-use Rattle.stream.specs.Stream.{place, byteAt}
+use native.Mathlib.Omega.{arith}
+use Rattle.stream.specs.declared.Spot.{Spot}
+use Rattle.stream.specs.Laws.{Stands, lent}
 use Rattle.records.specs.Records.{symbolAt}
-use Rattle.records.specs.Fields.{symbol-fields}
 use borrow.Author.Needs.{needs}
 use Rattle.records.proofs.symbol.Statement.{statement}
 use Rattle.records.proofs.symbol.Tie as tie
@@ -21,52 +22,56 @@ mul-p c = search needs
 add-p : tie.Need-add-p
 add-p c = search needs
 
-add-u64-at : tie.Need-add-u64-at
-add-u64-at c = search needs
+spot-of-requires : tie.Need-spot-of-requires
+spot-of-requires c κs = search needs
 
-u64-at-requires : tie.Need-u64-at-requires
-u64-at-requires c κs = search needs
+enum-known-at : tie.Need-enum-known-at
+enum-known-at c = search needs
 
-u32-at-requires : tie.Need-u32-at-requires
-u32-at-requires c κs = search needs
+-- the record's bytes stand together
+together : (c : tie.After-known-told)
+    → (let k = c .before .before .before .before in
+    let a = k .before .before .before .args in
+    Stands (now (a .d)) (a .gap) (k .before .symbols-at .result + 40 * k .size .result) 40 (Spot.Together (c .before .at .given .0 .0)))
+together c = subst (Stands _ _ _ 40) (c .before .at .given .1) (c .before .before .before .spot-of .ensures)
 
-add-u32-at : tie.Need-add-u32-at
-add-u32-at c = search needs
+add-end : tie.Need-add-end
+add-end c = omega (arith, together c .0)
 
-u32-at-requires-2 : tie.Need-u32-at-requires-2
-u32-at-requires-2 c κs = search needs
+sub-symbol-of : tie.Need-sub-symbol-of
+sub-symbol-of c = search needs
 
-add-extent : tie.Need-add-extent
-add-extent c = search needs
+part-symbol-of-start : tie.Need-part-symbol-of-start
+part-symbol-of-start c = search needs
 
-extent-requires : tie.Need-extent-requires
-extent-requires c κs = search needs
+part-symbol-of-end : tie.Need-part-symbol-of-end
+part-symbol-of-end c = search (needs, together c)
 
-add-u64-at-2 : tie.Need-add-u64-at-2
-add-u64-at-2 c = search needs
+symbol-of-requires : tie.Need-symbol-of-requires
+symbol-of-requires c κs = search needs
 
-u64-at-requires-2 : tie.Need-u64-at-requires-2
-u64-at-requires-2 c κs = search needs
+enum-told : tie.Need-enum-told
+enum-told c = search needs
 
-add-u64-at-3 : tie.Need-add-u64-at-3
-add-u64-at-3 c = search needs
+slice-aggregate-copy-bytes : tie.Need-slice-aggregate-copy-bytes
+slice-aggregate-copy-bytes c = search needs
 
-u64-at-requires-3 : tie.Need-u64-at-requires-3
-u64-at-requires-3 c κs = search needs
+copy-bytes-requires : tie.Need-copy-bytes-requires
+copy-bytes-requires c κs = search needs
 
-cast-t19 : tie.Need-cast-t19
-cast-t19 c = search needs
+slice-aggregate-symbol-of : tie.Need-slice-aggregate-symbol-of
+slice-aggregate-symbol-of c = search needs
 
-cast-t22 : tie.Need-cast-t22
-cast-t22 c = search needs
+symbol-of-requires-2 : tie.Need-symbol-of-requires-2
+symbol-of-requires-2 c κs = search needs
 
 returns : tie.Need-returns
-unfolding symbolAt byteAt
-returns c =
-    let a = c .before .before .before .before .before .before .before .before .before .args in
-    let p : ℕ = c .before .before .before .before .before .before .before .symbols-at .result + 40 * c .before .before .before .before .before .before .size .result in
-    let small : (k : ℕ) → byteAt (now (a .d)) (a .gap) k < 256 = λ k. omega (arith, c .before .before .before .before .before .before .before .before .shared-slice-known .given (place (a .gap) k)) in
-    cc (symbol-fields (now (a .d)) (a .gap) p small (c .before .before .before .before .before .u64-at .result) (c .before .before .before .before .before .u64-at .ensures))
+unfolding symbolAt
+returns c = cc (lent _ _ _ 40 _ (together (c .before .before)))
+
+returns-2 : tie.Need-returns-2
+unfolding symbolAt
+returns-2 c = cc
 
 pub symbol-spec : {M : Type 1} → statement M
 symbol-spec =
@@ -76,17 +81,17 @@ symbol-spec =
     size-requires
     mul-p
     add-p
-    add-u64-at
-    u64-at-requires
-    u32-at-requires
-    add-u32-at
-    u32-at-requires-2
-    add-extent
-    extent-requires
-    add-u64-at-2
-    u64-at-requires-2
-    add-u64-at-3
-    u64-at-requires-3
-    cast-t19
-    cast-t22
-    returns)
+    spot-of-requires
+    enum-known-at
+    add-end
+    sub-symbol-of
+    part-symbol-of-start
+    part-symbol-of-end
+    symbol-of-requires
+    enum-told
+    slice-aggregate-copy-bytes
+    copy-bytes-requires
+    slice-aggregate-symbol-of
+    symbol-of-requires-2
+    returns
+    returns-2)
