@@ -1,3 +1,2 @@
 -- What holds of the record numbers of an object that is not refused.
-pub mod Readable
 pub mod Numbers

@@ -13,12 +13,11 @@ use lib.ListN.{length}
 use Rattle.lists.specs.Tab.{tab, rows}
 use Rattle.lists.specs.Tests.{not-some, true-not-false, both-false}
 use Rattle.model.specs.declared.Endianness.{Endianness}
-use Rattle.model.specs.declared.Head.{Head}
+use Rattle.object_view.specs.declared.View.{View}
 use Rattle.model.specs.declared.EbpfSectionKind.{EbpfSectionKind as Kind}
 use Rattle.model.specs.declared.ProgramSection.{ProgramSection}
 use Rattle.model.specs.declared.ParsedProgramSection.{ParsedProgramSection}
 use Rattle.model.specs.Bytes.{ascii, orElse, firstIn, maybe, isSome, _∈_}
-use Rattle.model.specs.Deposit.{byteOrder}
 use Rattle.model.specs.Object.{Reloc, Section, Symbol, Object}
 use Rattle.model.specs.Instruction.{invalidProgramCode}
 use Rattle.model.specs.ProgramName.{programOf, fromStr, sectionNumber}
@@ -35,13 +34,14 @@ use Rattle.plan.specs.Numbers.{upTo}
 use Rattle.plan.specs.Groups.{all-below}
 use Rattle.plan.specs.ByNumber.{members, programMembers, textMembers, textOrder, numberAt, programs-by, symbols-by}
 use Rattle.plan.specs.Shared.{byAddress}
-use Rattle.plan.specs.SectionsPrograms.{All, all-kept, home, sectionsIn, programsIn}
+use Rattle.plan.specs.SectionsPrograms.{All, Rising, all-kept, home, sectionsIn, programsIn}
 use Rattle.plan.specs.FunctionsMaps.{Inside, inside, inside-programs, inside-walk, functionsIn, mapsIn, all-rows, all-found, all-sorted, all-∈}
 use Rattle.plan.specs.Tables.{table-members}
 use Rattle.plan.specs.Walk.{numberIn, walkRefusal, walk-met, walkNumbers, textFunctionOf, met-address}
-use Rattle.records.specs.Records.{dataAt, sectionAt, symbolAt}
-use Rattle.view.specs.View.{sectionFrom, symbolFrom, sectionIn, symbolIn, relocIn, objectIn}
-use Rattle.catalogue.specs.Numbers.{homeAt, functionsFrom, mapsFrom, sectionsFrom, programsFrom, sectionCandidates, programCandidates, functionCandidates, mapCandidates, sectionNumbers, programNumbers, functionNumbers, mapNumbers, Rises, Named, firstOf, countOf, Targeted}
+use Rattle.records.specs.View.{gapOf, sectionAt, symbolAt}
+use Rattle.records.specs.Readable.{Readable}
+use Rattle.view.specs.View.{sectionFrom, symbolFrom, sectionIn, symbolIn, relocIn, objectIn, rising}
+use Rattle.catalogue.specs.Numbers.{homeAt, functionsFrom, mapsFrom, sectionsFrom, programsFrom, sectionCandidates, programCandidates, functionCandidates, mapCandidates, sectionNumbers, programNumbers, functionNumbers, mapNumbers, Named, firstOf, countOf, Targeted}
 use Rattle.catalogue.specs.Fits.{FunctionFits, MapFits}
 
 -- ---- lists
@@ -115,18 +115,18 @@ has-target (y ∷ rs) e x (inr m) = has-target rs (both-false (not (isSome (y .s
 all-targeted : (r : ℕ → Reloc) (n : ℕ) → untargeted (tab r n) ≡ false → (k : ℕ) → k < n → isSome (r k .symbol) ≡ true
 all-targeted r n h k l = has-target (tab r n) h (r k) (tab-∈ r k n l)
 
-module _ (d : List ℕ) (gap : ℕ) (h : Head) (ok : objectRefusal (objectIn d gap h) ≡ none) where
+module _ (d t : List ℕ) (v : View) (ok : objectRefusal (objectIn d t v) ≡ none) where
   abbrev o : Object
-  o = objectIn d gap h
+  o = objectIn d t v
 
   abbrev order : Endianness
-  order = byteOrder (h .order)
+  order = v .order
 
   abbrev sec : ℕ → Section
-  sec = sectionIn d gap h
+  sec = sectionIn d t v
 
   abbrev at : ℕ → Symbol
-  at = symbolIn d gap h
+  at = symbolIn d t v
 
   -- ---- the parts
 
@@ -142,11 +142,11 @@ module _ (d : List ℕ) (gap : ℕ) (h : Head) (ok : objectRefusal (objectIn d g
   unfolding objectIn
   version-fine = rest .0
 
-  section-at : (i : ℕ) → i < h .sections → sectionRefusal o (sec i) ≡ none
+  section-at : (i : ℕ) → i < v .sections → sectionRefusal o (sec i) ≡ none
   unfolding objectIn
-  section-at i l = firstIn-none (sectionRefusal o) (sec i) (tab sec (h .sections)) (rest .1) (tab-∈ sec i (h .sections) l)
+  section-at i l = firstIn-none (sectionRefusal o) (sec i) (tab sec (v .sections)) (rest .1) (tab-∈ sec i (v .sections) l)
 
-  module _ (i : ℕ) (l : i < h .sections) where
+  module _ (i : ℕ) (l : i < v .sections) where
     program-at : isKind Kind.Program (kindOf (sec i)) ≡ true → programRefusal o (sec i) ≡ none
     program-at e = program-fine o (sec i) e (section-fine o (sec i) (other-kind Kind.Program Kind.BtfExt (sec i) e refl) (section-at i l) .1)
 
@@ -160,18 +160,18 @@ module _ (d : List ℕ) (gap : ℕ) (h : Head) (ok : objectRefusal (objectIn d g
     reloc-at e = section-fine o (sec i) e (section-at i l) .0
 
   -- 8
-  pub named : Named d gap h
+  pub named : Named d t v
   unfolding programRefusal
   named i l e =
       not-unknown (sec i .name) (sec i)
       (orElse-none (ofNumber (sec i) (sectionNumber (fromStr (sec i .name)))) (orElse (ofSection 9 (sec i) (isEmpty (symbolsOf o (sec i)))) (firstIn (programSymbolRefusal (sec i)) (programSymbols o (sec i)))) (program-at i l e) .0)
 
   -- 4
-  pub targeted : Targeted d gap h
+  pub targeted : Targeted d t v
   unfolding relocRefusal sectionFrom
   targeted i l e =
       let u : untargeted (sec i .relocs) ≡ false = refuse-none (untargeted (sec i .relocs)) 4 (sec i .index) _ 0 (reloc-at i l (no-ext (isKind Kind.Program (kindOf (sec i))) refl e)) in
-      all-targeted (λ k. relocIn d gap h (firstOf d gap h i + k)) (countOf d gap h i) u
+      all-targeted (λ k. relocIn d t v (firstOf d t v i + k)) (countOf d t v i) u
     where
       no-ext : (b : Bool) → isKind Kind.Program (kindOf (sec i)) ≡ b → (b || isKind Kind.Text (kindOf (sec i))) ≡ true → isKind Kind.BtfExt (kindOf (sec i)) ≡ false
       no-ext true p q = other-kind Kind.Program Kind.BtfExt (sec i) p refl
@@ -179,193 +179,196 @@ module _ (d : List ℕ) (gap : ℕ) (h : Head) (ok : objectRefusal (objectIn d g
 
   -- ---- what is known of a number
 
-  data-length : (i : ℕ) → length (sec i .bytes) ≡ sectionAt d gap i .bytes .length
+  data-length : (i : ℕ) → length (sec i .bytes) ≡ sectionAt d t v i .bytes .length
   unfolding sectionFrom
-  data-length i = length-bytes d gap (dataAt h + sectionAt d gap i .bytes .at) (sectionAt d gap i .bytes .length)
+  data-length i = length-bytes d (gapOf v) (v .at .bytes + sectionAt d t v i .bytes .at) (sectionAt d t v i .bytes .length)
 
-  by-record : (j : ℕ) → (at j .address ≡ symbolAt d gap h j .address) × (at j .size ≡ symbolAt d gap h j .size)
+  by-record : (j : ℕ) → (at j .address ≡ symbolAt d t v j .address) × (at j .size ≡ symbolAt d t v j .size)
   unfolding symbolFrom
   by-record j = (refl, refl)
 
   abbrev section-list : List Section
-  section-list = tab sec (h .sections)
+  section-list = tab sec (v .sections)
 
-  members-below : (i : ℕ) → All (λ j. j < h .symbols) (members order section-list at (h .symbols) (sec i))
+  members-below : (i : ℕ) → All (λ j. j < v .symbols) (members order section-list at (v .symbols) (sec i))
   unfolding members
-  members-below i = all-kept (λ j. j < h .symbols) (λ j. liesIn (sec i .index) (at j .section)) (upTo (h .symbols)) (all-below (h .symbols))
+  members-below i = all-kept (λ j. j < v .symbols) (λ j. liesIn (sec i .index) (at j .section)) (upTo (v .symbols)) (all-below (v .symbols))
 
-  programs-below : (i : ℕ) → All (λ j. j < h .symbols) (programMembers order section-list at (h .symbols) (sec i))
+  programs-below : (i : ℕ) → All (λ j. j < v .symbols) (programMembers order section-list at (v .symbols) (sec i))
   unfolding programMembers
-  programs-below i = all-kept (λ j. j < h .symbols) _ (members order section-list at (h .symbols) (sec i)) (members-below i)
+  programs-below i = all-kept (λ j. j < v .symbols) _ (members order section-list at (v .symbols) (sec i)) (members-below i)
 
   -- ---- sections and programs
 
-  pub sections-below : All (λ i. i < h .sections) (sectionNumbers d gap h)
+  pub sections-below : All (λ i. i < v .sections) (sectionNumbers d t v)
   unfolding sectionNumbers sectionCandidates sectionsIn
-  sections-below = all-table (λ i. i < h .sections) _ (rows (sectionsFrom d gap h) (h .sections)) (all-rows (λ i. i < h .sections) (sectionsFrom d gap h) (h .sections) one)
+  sections-below = all-table (λ i. i < v .sections) _ (rows (sectionsFrom d t v) (v .sections)) (all-rows (λ i. i < v .sections) (sectionsFrom d t v) (v .sections) one)
     where
-      one : (i : ℕ) → i < h .sections → All (λ k. k < h .sections) (sectionsFrom d gap h i)
+      one : (i : ℕ) → i < v .sections → All (λ k. k < v .sections) (sectionsFrom d t v i)
       one i l = go (isKind Kind.BtfExt (kindOf (sec i)))
         where
-          go : (b : Bool) → All (λ k. k < h .sections) (cond b [] (i ∷ []))
+          go : (b : Bool) → All (λ k. k < v .sections) (cond b [] (i ∷ []))
           go true = tt
           go false = (l, tt)
 
-  pub programs-listed : All (λ j. j < h .symbols) (programNumbers d gap h)
+  pub programs-listed : All (λ j. j < v .symbols) (programNumbers d t v)
   unfolding programNumbers programCandidates programsIn
-  programs-listed = all-table (λ j. j < h .symbols) _ (rows (programsFrom d gap h) (h .sections)) (all-rows (λ j. j < h .symbols) (programsFrom d gap h) (h .sections) one)
+  programs-listed = all-table (λ j. j < v .symbols) _ (rows (programsFrom d t v) (v .sections)) (all-rows (λ j. j < v .symbols) (programsFrom d t v) (v .sections) one)
     where
-      one : (i : ℕ) → i < h .sections → All (λ k. k < h .symbols) (programsFrom d gap h i)
+      one : (i : ℕ) → i < v .sections → All (λ k. k < v .symbols) (programsFrom d t v i)
       one i l = go (isKind Kind.Program (kindOf (sec i)))
         where
-          go : (b : Bool) → All (λ k. k < h .symbols) (cond b (programMembers order section-list at (h .symbols) (sec i)) [])
+          go : (b : Bool) → All (λ k. k < v .symbols) (cond b (programMembers order section-list at (v .symbols) (sec i)) [])
           go true = programs-below i
           go false = tt
 
   -- ---- functions
 
-  program-fits : Rises d gap h → (i j : ℕ) → i < h .sections → isKind Kind.Program (kindOf (sec i)) ≡ true → j < h .symbols → homeAt d gap h j ≡ i
-      → programSymbolRefusal (sec i) (at j) ≡ none → FunctionFits d gap h j
+  program-fits : (i j : ℕ) → i < v .sections → isKind Kind.Program (kindOf (sec i)) ≡ true → j < v .symbols → homeAt d t v j ≡ i
+      → programSymbolRefusal (sec i) (at j) ≡ none → FunctionFits d t v j
   unfolding programSymbolRefusal programFunction functionOf invalidProgramCode symbolFrom
-  program-fits rise i j l e b q f =
+  program-fits i j l e b q f =
       let low = ltb (at j .address) (sec i .address) in
-      let (u, v) = orElse-none (ofSymbol 10 (sec i) (at j) (passes (sec i .bytes) (at j) || low)) (ofSymbol 15 (sec i) (at j) (not (eqb (at j .size % 8) 0))) f in
+      let (u, z) = orElse-none (ofSymbol 10 (sec i) (at j) (passes (sec i .bytes) (at j) || low)) (ofSymbol 15 (sec i) (at j) (not (eqb (at j .size % 8) 0))) f in
       let p : at j .address + at j .size ≤ length (sec i .bytes) = not-past (sec i) (at j) (both-false (passes (sec i .bytes) (at j)) low (refuse-none _ 10 (sec i .index) (at j .index) 0 u) .0) in
-      let w : symbolAt d gap h j .address + symbolAt d gap h j .size ≤ sectionAt d gap i .bytes .length = rw (data-length i) at p in
+      let w : symbolAt d t v j .address + symbolAt d t v j .size ≤ sectionAt d t v i .bytes .length = rw (data-length i) at p in
       record {
         symbol = b;
         home = rw q l;
         within = rw (q, e) w;
-        whole = eqb-true _ _ (not-false _ (refuse-none _ 15 (sec i .index) (at j .index) 0 v));
+        whole = eqb-true _ _ (not-false _ (refuse-none _ 15 (sec i .index) (at j .index) 0 z));
       }
 
-  met-fits : (i p j : ℕ) → i < h .sections → isKind Kind.Program (kindOf (sec i)) ≡ false → numberIn order section-list at (h .symbols) (sec i) p ≡ some j
-      → Met (sec i) p (at j) → homeAt d gap h j ≡ i → j < h .symbols → FunctionFits d gap h j
+  met-fits : (i p j : ℕ) → i < v .sections → isKind Kind.Program (kindOf (sec i)) ≡ false → numberIn order section-list at (v .symbols) (sec i) p ≡ some j
+      → Met (sec i) p (at j) → homeAt d t v j ≡ i → j < v .symbols → FunctionFits d t v j
   unfolding textFunctionOf functionOf
   met-fits i p j l e f m q b =
-      let a : at j .address ≡ sec i .address + p = met-address order section-list at (h .symbols) (sec i) p j f in
+      let a : at j .address ≡ sec i .address + p = met-address order section-list at (v .symbols) (sec i) p j f in
       let c : at j .address - sec i .address ≡ p = omega arith in
-      let w : p + symbolAt d gap h j .size ≤ sectionAt d gap i .bytes .length = rw (data-length i, by-record j .1) at (m .inside) in
+      let w : p + symbolAt d t v j .size ≤ sectionAt d t v i .bytes .length = rw (data-length i, by-record j .1) at (m .inside) in
       record { symbol = b; home = rw q l; within = rw (q, e, c) w; whole = rw (by-record j .1) at (m .eights) }
 
   -- the symbols that a walk which is not refused meets
-  walk-fits : (i : ℕ) → i < h .sections → isKind Kind.Program (kindOf (sec i)) ≡ false
-      → (n p : ℕ) → walkRefusal order section-list at (h .symbols) (sec i) n p ≡ none
-      → All (λ j. homeAt d gap h j ≡ i → j < h .symbols → FunctionFits d gap h j) (walkNumbers order section-list at (h .symbols) (sec i) n p)
+  walk-fits : (i : ℕ) → i < v .sections → isKind Kind.Program (kindOf (sec i)) ≡ false
+      → (n p : ℕ) → walkRefusal order section-list at (v .symbols) (sec i) n p ≡ none
+      → All (λ j. homeAt d t v j ≡ i → j < v .symbols → FunctionFits d t v j) (walkNumbers order section-list at (v .symbols) (sec i) n p)
   unfolding walkNumbers
   walk-fits i l e zero p r = tt
-  walk-fits i l e (suc n) p r = go (ltb p (length (sec i .bytes))) refl (numberIn order section-list at (h .symbols) (sec i) p) refl (λ j v. walk-fits i l e n (p + at j .size) v)
+  walk-fits i l e (suc n) p r = go (ltb p (length (sec i .bytes))) refl (numberIn order section-list at (v .symbols) (sec i) p) refl (λ j q. walk-fits i l e n (p + at j .size) q)
     where
-      go : (b : Bool) → ltb p (length (sec i .bytes)) ≡ b → (m : Option ℕ) → numberIn order section-list at (h .symbols) (sec i) p ≡ m
-          → ((j : ℕ) → walkRefusal order section-list at (h .symbols) (sec i) n (p + at j .size) ≡ none
-          → All (λ k. homeAt d gap h k ≡ i → k < h .symbols → FunctionFits d gap h k) (walkNumbers order section-list at (h .symbols) (sec i) n (p + at j .size)))
-          → All (λ j. homeAt d gap h j ≡ i → j < h .symbols → FunctionFits d gap h j)
-          (cond b (maybe m [] (λ j. j ∷ walkNumbers order section-list at (h .symbols) (sec i) n (p + at j .size))) [])
-      go false t m f more = tt
-      go true t none f more = tt
-      go true t (some j) f more =
-          let w = walk-met order section-list at (h .symbols) (sec i) n p j (ltb-true _ _ t) f in
-          let (u, v) = orElse-none (stopRefusal (sec i) (record { at = p; met = some (at j) })) (walkRefusal order section-list at (h .symbols) (sec i) n (p + at j .size)) (sym w ∙ r) in
-          (met-fits i p j l e f (stop-accepted (sec i) p (at j) u), more j v)
+      go : (b : Bool) → ltb p (length (sec i .bytes)) ≡ b → (m : Option ℕ) → numberIn order section-list at (v .symbols) (sec i) p ≡ m
+          → ((j : ℕ) → walkRefusal order section-list at (v .symbols) (sec i) n (p + at j .size) ≡ none
+          → All (λ k. homeAt d t v k ≡ i → k < v .symbols → FunctionFits d t v k) (walkNumbers order section-list at (v .symbols) (sec i) n (p + at j .size)))
+          → All (λ j. homeAt d t v j ≡ i → j < v .symbols → FunctionFits d t v j)
+          (cond b (maybe m [] (λ j. j ∷ walkNumbers order section-list at (v .symbols) (sec i) n (p + at j .size))) [])
+      go false q m f more = tt
+      go true q none f more = tt
+      go true q (some j) f more =
+          let w = walk-met order section-list at (v .symbols) (sec i) n p j (ltb-true _ _ q) f in
+          let (u, z) = orElse-none (stopRefusal (sec i) (record { at = p; met = some (at j) })) (walkRefusal order section-list at (v .symbols) (sec i) n (p + at j .size)) (sym w ∙ r) in
+          (met-fits i p j l e f (stop-accepted (sec i) p (at j) u), more j z)
 
-  text-refused : (i : ℕ) → textRefusal o (sec i) ≡ none → walkRefusal order section-list at (h .symbols) (sec i) (length (sec i .bytes)) 0 ≡ none
+  text-refused : (i : ℕ) → textRefusal o (sec i) ≡ none → walkRefusal order section-list at (v .symbols) (sec i) (length (sec i .bytes)) 0 ≡ none
   unfolding textRefusal walkOf walkRefusal objectIn
   text-refused i e = orElse-none (sharedRefusal (sec i) [] (definedText o (sec i))) (firstIn (stopRefusal (sec i)) (walkOf o (sec i))) e .1
 
-  program-refused : (i : ℕ) → programRefusal o (sec i) ≡ none → firstIn (programSymbolRefusal (sec i)) (map at (programMembers order section-list at (h .symbols) (sec i))) ≡ none
+  program-refused : (i : ℕ) → programRefusal o (sec i) ≡ none → firstIn (programSymbolRefusal (sec i)) (map at (programMembers order section-list at (v .symbols) (sec i))) ≡ none
   unfolding programRefusal objectIn
   program-refused i e =
       let (a, b) = orElse-none (ofNumber (sec i) (sectionNumber (fromStr (sec i .name)))) (orElse (ofSection 9 (sec i) (isEmpty (symbolsOf o (sec i)))) (firstIn (programSymbolRefusal (sec i)) (programSymbols o (sec i)))) e in
       let (c, f) = orElse-none (ofSection 9 (sec i) (isEmpty (symbolsOf o (sec i)))) (firstIn (programSymbolRefusal (sec i)) (programSymbols o (sec i))) b in
-      ap (firstIn (programSymbolRefusal (sec i))) (sym (programs-by order section-list at (h .symbols) (sec i))) ∙ f
+      ap (firstIn (programSymbolRefusal (sec i))) (sym (programs-by order section-list at (v .symbols) (sec i))) ∙ f
 
-  text-below : (i : ℕ) → All (λ j. j < h .symbols) (textOrder order section-list at (h .symbols) (sec i))
+  text-below : (i : ℕ) → All (λ j. j < v .symbols) (textOrder order section-list at (v .symbols) (sec i))
   unfolding textOrder textMembers
-  text-below i = all-sorted (λ j. j < h .symbols) (byAddress (λ j. at j .address)) _ (all-kept (λ j. j < h .symbols) _ (members order section-list at (h .symbols) (sec i)) (members-below i))
+  text-below i = all-sorted (λ j. j < v .symbols) (byAddress (λ j. at j .address)) _ (all-kept (λ j. j < v .symbols) _ (members order section-list at (v .symbols) (sec i)) (members-below i))
 
-  found-below : (i p j : ℕ) → numberIn order section-list at (h .symbols) (sec i) p ≡ some j → j < h .symbols
+  found-below : (i p j : ℕ) → numberIn order section-list at (v .symbols) (sec i) p ≡ some j → j < v .symbols
   found-below i p j e = go (leb (sec i .address + p) top) e
     where
-      go : (b : Bool) → cond b (numberAt order section-list at (h .symbols) (sec i) (sec i .address + p)) none ≡ some j → j < h .symbols
-      go true q = all-found (λ k. k < h .symbols) (λ k. eqb (at k .address) (sec i .address + p)) _ j (text-below i) q
+      go : (b : Bool) → cond b (numberAt order section-list at (v .symbols) (sec i) (sec i .address + p)) none ≡ some j → j < v .symbols
+      go true q = all-found (λ k. k < v .symbols) (λ k. eqb (at k .address) (sec i .address + p)) _ j (text-below i) q
       go false q = not-some j (sym q)
 
-  walk-below : (i : ℕ) (n p : ℕ) → All (λ j. j < h .symbols) (walkNumbers order section-list at (h .symbols) (sec i) n p)
+  walk-below : (i : ℕ) (n p : ℕ) → All (λ j. j < v .symbols) (walkNumbers order section-list at (v .symbols) (sec i) n p)
   unfolding walkNumbers
   walk-below i zero p = tt
-  walk-below i (suc n) p = go (ltb p (length (sec i .bytes))) (numberIn order section-list at (h .symbols) (sec i) p) refl (λ j. walk-below i n (p + at j .size))
+  walk-below i (suc n) p = go (ltb p (length (sec i .bytes))) (numberIn order section-list at (v .symbols) (sec i) p) refl (λ j. walk-below i n (p + at j .size))
     where
-      go : (b : Bool) (m : Option ℕ) → numberIn order section-list at (h .symbols) (sec i) p ≡ m
-          → ((j : ℕ) → All (λ k. k < h .symbols) (walkNumbers order section-list at (h .symbols) (sec i) n (p + at j .size)))
-          → All (λ k. k < h .symbols) (cond b (maybe m [] (λ j. j ∷ walkNumbers order section-list at (h .symbols) (sec i) n (p + at j .size))) [])
+      go : (b : Bool) (m : Option ℕ) → numberIn order section-list at (v .symbols) (sec i) p ≡ m
+          → ((j : ℕ) → All (λ k. k < v .symbols) (walkNumbers order section-list at (v .symbols) (sec i) n (p + at j .size)))
+          → All (λ k. k < v .symbols) (cond b (maybe m [] (λ j. j ∷ walkNumbers order section-list at (v .symbols) (sec i) n (p + at j .size))) [])
       go false m f r = tt
       go true none f r = tt
       go true (some j) f r = (found-below i p j f, r j)
 
-  module _ (rise : Rises d gap h) where
-    abbrev in-section : ℕ → ℕ → Type 0
-    in-section i j = Inside order sec (h .sections) at (h .symbols) i j
+  module _ (r : Readable d t v) where
+    abbrev rise : Rising order sec (v .sections) at (v .symbols)
+    rise = rising d t v (r .sections-rise)
 
-    programs-fit : (i : ℕ) → i < h .sections → isKind Kind.Program (kindOf (sec i)) ≡ true → All (FunctionFits d gap h) (programMembers order section-list at (h .symbols) (sec i))
+    abbrev in-section : ℕ → ℕ → Type 0
+    in-section i j = Inside order sec (v .sections) at (v .symbols) i j
+
+    programs-fit : (i : ℕ) → i < v .sections → isKind Kind.Program (kindOf (sec i)) ≡ true → All (FunctionFits d t v) (programMembers order section-list at (v .symbols) (sec i))
     programs-fit i l e =
-        let js = programMembers order section-list at (h .symbols) (sec i) in
+        let js = programMembers order section-list at (v .symbols) (sec i) in
         let f = program-refused i (program-at i l e) in
-        all-of (FunctionFits d gap h) js
-        (λ j m. program-fits rise i j l e (all-∈ (λ k. k < h .symbols) j js (programs-below i) m)
-        (all-∈ (in-section i) j js (inside-programs order sec (h .sections) at (h .symbols) rise i l) m .home-of)
+        all-of (FunctionFits d t v) js
+        (λ j m. program-fits i j l e (all-∈ (λ k. k < v .symbols) j js (programs-below i) m)
+        (all-∈ (in-section i) j js (inside-programs order sec (v .sections) at (v .symbols) rise i l) m .home-of)
         (firstIn-none (programSymbolRefusal (sec i)) (at j) (map at js) f (∈-map at j js m)))
 
-    text-fits : (i : ℕ) → i < h .sections → isKind Kind.Program (kindOf (sec i)) ≡ false → isKind Kind.Text (kindOf (sec i)) ≡ true
-        → All (FunctionFits d gap h) (walkNumbers order section-list at (h .symbols) (sec i) (length (sec i .bytes)) 0)
+    text-fits : (i : ℕ) → i < v .sections → isKind Kind.Program (kindOf (sec i)) ≡ false → isKind Kind.Text (kindOf (sec i)) ≡ true
+        → All (FunctionFits d t v) (walkNumbers order section-list at (v .symbols) (sec i) (length (sec i .bytes)) 0)
     text-fits i l p e =
-        let js = walkNumbers order section-list at (h .symbols) (sec i) (length (sec i .bytes)) 0 in
+        let js = walkNumbers order section-list at (v .symbols) (sec i) (length (sec i .bytes)) 0 in
         let a = walk-fits i l p (length (sec i .bytes)) 0 (text-refused i (text-at i l e)) in
-        let b = inside-walk order sec (h .sections) at (h .symbols) rise i l (length (sec i .bytes)) 0 in
+        let b = inside-walk order sec (v .sections) at (v .symbols) rise i l (length (sec i .bytes)) 0 in
         let c = walk-below i (length (sec i .bytes)) 0 in
-        all-of (FunctionFits d gap h) js
-        (λ j m. all-∈ (λ k. homeAt d gap h k ≡ i → k < h .symbols → FunctionFits d gap h k) j js a m (all-∈ (in-section i) j js b m .home-of) (all-∈ (λ k. k < h .symbols) j js c m))
+        all-of (FunctionFits d t v) js
+        (λ j m. all-∈ (λ k. homeAt d t v k ≡ i → k < v .symbols → FunctionFits d t v k) j js a m (all-∈ (in-section i) j js b m .home-of) (all-∈ (λ k. k < v .symbols) j js c m))
 
-    pub functions-fit : All (FunctionFits d gap h) (functionNumbers d gap h)
+    pub functions-fit : All (FunctionFits d t v) (functionNumbers d t v)
     unfolding functionNumbers functionCandidates functionsIn
-    functions-fit = all-table (FunctionFits d gap h) _ (rows (functionsFrom d gap h) (h .sections)) (all-rows (FunctionFits d gap h) (functionsFrom d gap h) (h .sections) one)
+    functions-fit = all-table (FunctionFits d t v) _ (rows (functionsFrom d t v) (v .sections)) (all-rows (FunctionFits d t v) (functionsFrom d t v) (v .sections) one)
       where
-        one : (i : ℕ) → i < h .sections → All (FunctionFits d gap h) (functionsFrom d gap h i)
+        one : (i : ℕ) → i < v .sections → All (FunctionFits d t v) (functionsFrom d t v i)
         one i l = go (isKind Kind.Program (kindOf (sec i))) refl (isKind Kind.Text (kindOf (sec i))) refl
           where
             go : (b : Bool) → isKind Kind.Program (kindOf (sec i)) ≡ b → (c : Bool) → isKind Kind.Text (kindOf (sec i)) ≡ c
-                → All (FunctionFits d gap h)
-                (cond b (programMembers order section-list at (h .symbols) (sec i)) (cond c (walkNumbers order section-list at (h .symbols) (sec i) (length (sec i .bytes)) 0) []))
+                → All (FunctionFits d t v)
+                (cond b (programMembers order section-list at (v .symbols) (sec i)) (cond c (walkNumbers order section-list at (v .symbols) (sec i) (length (sec i .bytes)) 0) []))
             go true e c f = programs-fit i l e
             go false e true f = text-fits i l e f
             go false e false f = tt
 
     -- ---- maps
 
-    map-fits : (i j : ℕ) → i < h .sections → j < h .symbols → homeAt d gap h j ≡ i → mapSymbolRefusal (sec i) (at j) ≡ none → MapFits d gap h (h .sections + j)
+    map-fits : (i j : ℕ) → i < v .sections → j < v .symbols → homeAt d t v j ≡ i → mapSymbolRefusal (sec i) (at j) ≡ none → MapFits d t v (v .sections + j)
     unfolding mapSymbolRefusal
     map-fits i j l b q f =
-        let e : h .sections + j - h .sections ≡ j = omega arith in
-        let (u, v) = orElse-none (ofSymbol 10 (sec i) (at j) (passes (sec i .bytes) (at j))) (ofSymbol 16 (sec i) (at j) (invalidMapDefinition (at j .size) (recordOf (sec i) (at j)))) f in
+        let e : v .sections + j - v .sections ≡ j = omega arith in
+        let (u, z) = orElse-none (ofSymbol 10 (sec i) (at j) (passes (sec i .bytes) (at j))) (ofSymbol 16 (sec i) (at j) (invalidMapDefinition (at j .size) (recordOf (sec i) (at j)))) f in
         let p : at j .address + at j .size ≤ length (sec i .bytes) = not-past (sec i) (at j) (refuse-none _ 10 (sec i .index) (at j .index) 0 u) in
-        let w : symbolAt d gap h j .address + symbolAt d gap h j .size ≤ sectionAt d gap i .bytes .length = rw (data-length i, by-record j .0, by-record j .1) at p in
+        let w : symbolAt d t v j .address + symbolAt d t v j .size ≤ sectionAt d t v i .bytes .length = rw (data-length i, by-record j .0, by-record j .1) at p in
         record { number = omega arith; home = λ _. rw (e, q) l; within = λ _. rw (e, q) w }
 
-    maps-refused : (i : ℕ) → mapsRefusal o (sec i) ≡ none → firstIn (mapSymbolRefusal (sec i)) (map at (members order section-list at (h .symbols) (sec i))) ≡ none
+    maps-refused : (i : ℕ) → mapsRefusal o (sec i) ≡ none → firstIn (mapSymbolRefusal (sec i)) (map at (members order section-list at (v .symbols) (sec i))) ≡ none
     unfolding mapsRefusal objectIn
     maps-refused i e =
         let (a, b) = orElse-none (ofSection 9 (sec i) (isEmpty (symbolsOf o (sec i)))) (firstIn (mapSymbolRefusal (sec i)) (symbolsOf o (sec i))) e in
-        ap (firstIn (mapSymbolRefusal (sec i))) (sym (symbols-by order section-list at (h .symbols) (sec i))) ∙ b
+        ap (firstIn (mapSymbolRefusal (sec i))) (sym (symbols-by order section-list at (v .symbols) (sec i))) ∙ b
 
-    legacy-fit : (i : ℕ) → i < h .sections → isKind Kind.Maps (kindOf (sec i)) ≡ true → All (MapFits d gap h) (map (λ j. h .sections + j) (members order section-list at (h .symbols) (sec i)))
+    legacy-fit : (i : ℕ) → i < v .sections → isKind Kind.Maps (kindOf (sec i)) ≡ true → All (MapFits d t v) (map (λ j. v .sections + j) (members order section-list at (v .symbols) (sec i)))
     legacy-fit i l e =
-        let js = members order section-list at (h .symbols) (sec i) in
+        let js = members order section-list at (v .symbols) (sec i) in
         let f = maps-refused i (maps-at i l e) in
-        all-map (MapFits d gap h) (λ j. h .sections + j) js
-        (all-of (λ j. MapFits d gap h (h .sections + j)) js
-        (λ j m. map-fits i j l (all-∈ (λ k. k < h .symbols) j js (members-below i) m) (all-∈ (in-section i) j js (inside order sec (h .sections) at (h .symbols) rise i l) m .home-of)
+        all-map (MapFits d t v) (λ j. v .sections + j) js
+        (all-of (λ j. MapFits d t v (v .sections + j)) js
+        (λ j m. map-fits i j l (all-∈ (λ k. k < v .symbols) j js (members-below i) m) (all-∈ (in-section i) j js (inside order sec (v .sections) at (v .symbols) rise i l) m .home-of)
         (firstIn-none (mapSymbolRefusal (sec i)) (at j) (map at js) f (∈-map at j js m))))
 
-    data-fits : (i : ℕ) → i < h .sections → MapFits d gap h i
+    data-fits : (i : ℕ) → i < v .sections → MapFits d t v i
     data-fits i l =
         record {
           number = omega arith;
@@ -373,15 +376,15 @@ module _ (d : List ℕ) (gap : ℕ) (h : Head) (ok : objectRefusal (objectIn d g
           within = λ q. (let no : ⊥ = omega arith in absurd no);
         }
 
-    pub maps-fit : All (MapFits d gap h) (mapNumbers d gap h)
+    pub maps-fit : All (MapFits d t v) (mapNumbers d t v)
     unfolding mapNumbers mapCandidates mapsIn
-    maps-fit = all-table (MapFits d gap h) _ (rows (mapsFrom d gap h) (h .sections)) (all-rows (MapFits d gap h) (mapsFrom d gap h) (h .sections) one)
+    maps-fit = all-table (MapFits d t v) _ (rows (mapsFrom d t v) (v .sections)) (all-rows (MapFits d t v) (mapsFrom d t v) (v .sections) one)
       where
-        one : (i : ℕ) → i < h .sections → All (MapFits d gap h) (mapsFrom d gap h i)
+        one : (i : ℕ) → i < v .sections → All (MapFits d t v) (mapsFrom d t v i)
         one i l = go (isKind Kind.Maps (kindOf (sec i))) refl (isData (kindOf (sec i)))
           where
             go : (b : Bool) → isKind Kind.Maps (kindOf (sec i)) ≡ b → (c : Bool)
-                → All (MapFits d gap h) (cond b (map (λ j. h .sections + j) (members order section-list at (h .symbols) (sec i))) (cond c (i ∷ []) []))
+                → All (MapFits d t v) (cond b (map (λ j. v .sections + j) (members order section-list at (v .symbols) (sec i))) (cond c (i ∷ []) []))
             go true e c = legacy-fit i l e
             go false e true = (data-fits i l, tt)
             go false e false = tt

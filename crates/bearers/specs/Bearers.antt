@@ -3,7 +3,7 @@ use mathlib.Core.Path.{_≡_, ap, _∙_}
 use mathlib.Core.Bool.{Bool}
 use mathlib.Core.List.{List, [], _∷_, map}
 use Prim.Native.Nat.{ℕ}
-use Rattle.model.specs.declared.Head.{Head}
+use Rattle.object_view.specs.declared.View.{View}
 use Rattle.model.specs.Bytes.{same, keep}
 use Rattle.model.specs.Object.{Symbol}
 use Rattle.model.specs.Refusals.{bearers}
@@ -16,16 +16,16 @@ bearerOf [] = Bearer.Nobody
 bearerOf (j ∷ []) = Bearer.One j
 bearerOf (j ∷ k ∷ js) = Bearer.Several
 
-module _ (d : List ℕ) (gap : ℕ) (h : Head) (name : List ℕ) where
+module _ (d t : List ℕ) (v : View) (name : List ℕ) where
   abbrev pub bears : ℕ → Bool
-  bears j = same name (symbolIn d gap h j .name)
+  bears j = same name (symbolIn d t v j .name)
 
   unfoldable pub bearersIn : List ℕ
-  bearersIn = keep bears (upTo (h .symbols))
+  bearersIn = keep bears (upTo (v .symbols))
 
   abbrev borne : Symbol → Bool
   borne y = same name (y .name)
 
-  pub bearers-by : bearers (objectIn d gap h) name ≡ map (symbolIn d gap h) bearersIn
+  pub bearers-by : bearers (objectIn d t v) name ≡ map (symbolIn d t v) bearersIn
   unfolding bearers objectIn bearersIn
-  bearers-by = ap (keep borne) (tab-is-map (symbolIn d gap h) (h .symbols)) ∙ keep-map borne (symbolIn d gap h) (upTo (h .symbols))
+  bearers-by = ap (keep borne) (tab-is-map (symbolIn d t v) (v .symbols)) ∙ keep-map borne (symbolIn d t v) (upTo (v .symbols))

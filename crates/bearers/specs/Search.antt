@@ -12,7 +12,7 @@ use lib.Dec.{ltb}
 use lib.ListN.{length, getD, drop, drop-of-length-le}
 use lib.Seq.{drop-cons}
 use Rattle.lists.specs.Tests.{true-not-false, both-true}
-use Rattle.model.specs.declared.Head.{Head}
+use Rattle.object_view.specs.declared.View.{View}
 use Rattle.model.specs.Bytes.{same, before, keep}
 use Rattle.orders.specs.declared.Ordering.{Ordering}
 use Rattle.orders.specs.Compare.{ordering, byTests}
@@ -186,47 +186,47 @@ module _ (key : ℕ → List ℕ) (word : List ℕ) where
 
 -- ---- symbols sorted by name
 
-module _ (d : List ℕ) (gap : ℕ) (h : Head) where
+module _ (d t : List ℕ) (v : View) where
   abbrev pub nameOf : ℕ → List ℕ
-  nameOf = keyOf By.SymbolName d gap h
+  nameOf = keyOf By.SymbolName d t v
 
   -- all symbols, sorted by name
   unfoldable pub byName : List ℕ
-  byName = sorted (byKey nameOf) (upTo (h .symbols))
+  byName = sorted (byKey nameOf) (upTo (v .symbols))
 
   -- all numbers, counted up and sorted
-  pub name-order : (l m : List ℕ) → l ≡ upTo (h .symbols) → m ≡ sorted (byKey nameOf) l → m ≡ byName
+  pub name-order : (l m : List ℕ) → l ≡ upTo (v .symbols) → m ≡ sorted (byKey nameOf) l → m ≡ byName
   unfolding byName
   name-order l m p q = q ∙ ap (sorted (byKey nameOf)) p
 
   pub by-name-ordered : Ordered (byKey nameOf) byName
   unfolding byName
-  by-name-ordered = sorted-ordered (byKey nameOf) (key-order nameOf) (upTo (h .symbols))
+  by-name-ordered = sorted-ordered (byKey nameOf) (key-order nameOf) (upTo (v .symbols))
 
   alike : (word : List ℕ) (i j : ℕ) → same word (nameOf i) ≡ true → same word (nameOf j) ≡ true → byKey nameOf i j ≡ true
   alike word i j p q =
       let e : nameOf j ≡ nameOf i = sym (same-is word (nameOf j) q) ∙ same-is word (nameOf i) p in
       ap not (ap (λ k. before k (nameOf i)) e ∙ before-irrefl (nameOf i))
 
-  pub bearers-sorted : (word : List ℕ) → keep (λ j. same word (nameOf j)) byName ≡ bearersIn d gap h word
+  pub bearers-sorted : (word : List ℕ) → keep (λ j. same word (nameOf j)) byName ≡ bearersIn d t v word
   unfolding byName bearersIn keyOf symbolFrom
-  bearers-sorted word = keep-sorted (byKey nameOf) (λ j. same word (nameOf j)) (alike word) (upTo (h .symbols))
+  bearers-sorted word = keep-sorted (byKey nameOf) (λ j. same word (nameOf j)) (alike word) (upTo (v .symbols))
 
   -- what a look at the first two that are not before the word tells
   module _ (word order : List ℕ) (e : order ≡ byName) (r : ℕ) (f : First nameOf word order r) where
     pub name-ordered : Ordered (byKey nameOf) order
     name-ordered = rw e by-name-ordered
 
-    kept : bearerOf (keep (λ j. same word (nameOf j)) order) ≡ bearerOf (bearersIn d gap h word)
+    kept : bearerOf (keep (λ j. same word (nameOf j)) order) ≡ bearerOf (bearersIn d t v word)
     kept = ap bearerOf (ap (keep (λ j. same word (nameOf j))) e ∙ bearers-sorted word)
 
-    pub nobody-bears : hasAt nameOf word order r ≡ false → Bearer.Nobody ≡ bearerOf (bearersIn d gap h word)
+    pub nobody-bears : hasAt nameOf word order r ≡ false → Bearer.Nobody ≡ bearerOf (bearersIn d t v word)
     nobody-bears p = sym (nobody nameOf word order name-ordered r f p) ∙ kept
 
-    pub one-bears : hasAt nameOf word order r ≡ true → hasAt nameOf word order (r + 1) ≡ false → Bearer.One (getD order r 0) ≡ bearerOf (bearersIn d gap h word)
+    pub one-bears : hasAt nameOf word order r ≡ true → hasAt nameOf word order (r + 1) ≡ false → Bearer.One (getD order r 0) ≡ bearerOf (bearersIn d t v word)
     one-bears p q = sym (one nameOf word order name-ordered r f p q) ∙ kept
 
-    pub several-bear : hasAt nameOf word order r ≡ true → hasAt nameOf word order (r + 1) ≡ true → Bearer.Several ≡ bearerOf (bearersIn d gap h word)
+    pub several-bear : hasAt nameOf word order r ≡ true → hasAt nameOf word order (r + 1) ≡ true → Bearer.Several ≡ bearerOf (bearersIn d t v word)
     several-bear p q = sym (several nameOf word order name-ordered r f p q) ∙ kept
 
 pub stands-there : (key : ℕ → List ℕ) (word l : List ℕ) (i : ℕ) → hasAt key word l i ≡ true → i < length l

@@ -4,14 +4,15 @@ ghost use Prim.Native.Nat.{_^_, _<_, _≤_};
 ghost use lib.ListN.{length};
 ghost use Rattle.model.specs.Bytes.{same, before};
 ghost use Rattle.orders.specs.Compare.{ordering};
+ghost use Rattle.records.specs.Readable.{Readable};
 ghost use Rattle.bearers.specs.Bearers.{bearerOf, bearersIn};
 ghost use Rattle.bearers.specs.Search.{First, hasAt, nameOf, byName};
 use keys::By;
 use keys::compare_name_with;
-use keys::names_at;
-use keys::symbol_name;
-use model::Head;
+use object_view::View;
 use orders::Ordering;
+use records::name_at;
+use records::symbol_name;
 use stream::size;
 
 // The number of the one symbol that bears a name.
@@ -22,41 +23,41 @@ pub enum Bearer {
 }
 
 // All symbols sorted by name.
-pub fn by_name(d: &[u8], gap: usize, h: Head, order: &mut [u32], tmp: &mut [u32])
-    requires { ⌜ (gap ≤ 4) × (h .symbols ≤ 65536) × (length (now order) ≡ h .symbols) × (length (now tmp) ≡ h .symbols) ⌝ }
-    ensures { λ r. ⌜ now (order .exit) ≡ byName (now (d .entry)) gap h ⌝ }
+pub fn by_name(d: &[u8], t: &[u32], v: View, order: &mut [u32], tmp: &mut [u32])
+    requires { ⌜ (v .symbols ≤ 65536) × (length (now order) ≡ v .symbols) × (length (now tmp) ≡ v .symbols) ⌝ }
+    ensures { λ r. ⌜ now (order .exit) ≡ byName (now (d .entry)) (now (t .entry)) v ⌝ }
 {
     sort::count_up(order);
-    sort::sort(d, gap, h, By::SymbolName, order, tmp);
+    sort::sort(d, t, v, By::SymbolName, order, tmp);
 }
 
 // How the name of symbol j stands to a word.
-fn compare(d: &[u8], gap: usize, h: Head, j: u32, word: &[u8]) -> Ordering
-    requires { ⌜ (gap ≤ 4) × (length (now word) < 2 ^ 60) ⌝ }
-    ensures { λ r. ⌜ r ≡ ordering (nameOf (now (d .entry)) gap h j) (now (word .entry)) ⌝ }
+fn compare(d: &[u8], t: &[u32], v: View, j: u32, word: &[u8]) -> Ordering
+    requires { ⌜ length (now word) < 2 ^ 60 ⌝ }
+    ensures { λ r. ⌜ r ≡ ordering (nameOf (now (d .entry)) (now (t .entry)) v j) (now (word .entry)) ⌝ }
 {
-    let name = symbol_name(d, gap, h, j);
-    let at = names_at(h) + size(name.at);
+    let name = symbol_name(d, t, v, j);
+    let at = name_at(v, name);
     let n = size(name.length);
-    compare_name_with(d, gap, at, n, word)
+    compare_name_with(d, records::gap(v), at, n, word)
 }
 
-fn is_before(d: &[u8], gap: usize, h: Head, j: u32, word: &[u8]) -> bool
-    requires { ⌜ (gap ≤ 4) × (length (now word) < 2 ^ 60) ⌝ }
-    ensures { λ r. ⌜ r ≡ before (nameOf (now (d .entry)) gap h j) (now (word .entry)) ⌝ }
+fn is_before(d: &[u8], t: &[u32], v: View, j: u32, word: &[u8]) -> bool
+    requires { ⌜ length (now word) < 2 ^ 60 ⌝ }
+    ensures { λ r. ⌜ r ≡ before (nameOf (now (d .entry)) (now (t .entry)) v j) (now (word .entry)) ⌝ }
 {
-    match compare(d, gap, h, j, word) {
+    match compare(d, t, v, j, word) {
         Ordering::Less => true,
         Ordering::Equal => false,
         Ordering::Greater => false,
     }
 }
 
-fn is_same(d: &[u8], gap: usize, h: Head, j: u32, word: &[u8]) -> bool
-    requires { ⌜ (gap ≤ 4) × (length (now word) < 2 ^ 60) ⌝ }
-    ensures { λ r. ⌜ r ≡ same (now (word .entry)) (nameOf (now (d .entry)) gap h j) ⌝ }
+fn is_same(d: &[u8], t: &[u32], v: View, j: u32, word: &[u8]) -> bool
+    requires { ⌜ length (now word) < 2 ^ 60 ⌝ }
+    ensures { λ r. ⌜ r ≡ same (now (word .entry)) (nameOf (now (d .entry)) (now (t .entry)) v j) ⌝ }
 {
-    match compare(d, gap, h, j, word) {
+    match compare(d, t, v, j, word) {
         Ordering::Less => false,
         Ordering::Equal => true,
         Ordering::Greater => false,
@@ -64,27 +65,27 @@ fn is_same(d: &[u8], gap: usize, h: Head, j: u32, word: &[u8]) -> bool
 }
 
 // Whether a symbol stands at a place and bears the name.
-fn bears_at(d: &[u8], gap: usize, h: Head, order: &[u32], at: usize, word: &[u8]) -> bool
-    requires { ⌜ (gap ≤ 4) × (length (now word) < 2 ^ 60) ⌝ }
-    ensures { λ r. ⌜ r ≡ hasAt (nameOf (now (d .entry)) gap h) (now (word .entry)) (now (order .entry)) at ⌝ }
+fn bears_at(d: &[u8], t: &[u32], v: View, order: &[u32], at: usize, word: &[u8]) -> bool
+    requires { ⌜ length (now word) < 2 ^ 60 ⌝ }
+    ensures { λ r. ⌜ r ≡ hasAt (nameOf (now (d .entry)) (now (t .entry)) v) (now (word .entry)) (now (order .entry)) at ⌝ }
 {
     if at < order.len() {
-        is_same(d, gap, h, order[at], word)
+        is_same(d, t, v, order[at], word)
     } else {
         false
     }
 }
 
 // The place of the first symbol whose name is not before the word, or how many there are.
-fn lower_bound(d: &[u8], gap: usize, h: Head, order: &[u32], word: &[u8]) -> usize
-    requires { ⌜ (gap ≤ 4) × (now order ≡ byName (now d) gap h) × (length (now word) < 2 ^ 60) ⌝ }
-    ensures { λ r. ⌜ First (nameOf (now (d .entry)) gap h) (now (word .entry)) (now (order .entry)) r ⌝ }
+fn lower_bound(d: &[u8], t: &[u32], v: View, order: &[u32], word: &[u8]) -> usize
+    requires { ⌜ (now order ≡ byName (now d) (now t) v) × (length (now word) < 2 ^ 60) ⌝ }
+    ensures { λ r. ⌜ First (nameOf (now (d .entry)) (now (t .entry)) v) (now (word .entry)) (now (order .entry)) r ⌝ }
 {
     let mut low: usize = 0;
     let mut high: usize = order.len();
     while low < high {
         let middle = low + (high - low) / 2;
-        if is_before(d, gap, h, order[middle], word) {
+        if is_before(d, t, v, order[middle], word) {
             low = middle + 1;
         } else {
             high = middle;
@@ -93,19 +94,19 @@ fn lower_bound(d: &[u8], gap: usize, h: Head, order: &[u32], word: &[u8]) -> usi
     low
 }
 
-pub fn bearer_of(d: &[u8], gap: usize, h: Head, order: &[u32], word: &[u8]) -> Bearer
-    requires { ⌜ (gap ≤ 4) × (now order ≡ byName (now d) gap h) ⌝ }
-    ensures { λ r. ⌜ r ≡ bearerOf (bearersIn (now (d .entry)) gap h (now (word .entry))) ⌝ }
+pub fn bearer_of(d: &[u8], t: &[u32], v: View, order: &[u32], word: &[u8]) -> Bearer
+    requires { ⌜ Readable (now d) (now t) v × (now order ≡ byName (now d) (now t) v) ⌝ }
+    ensures { λ r. ⌜ r ≡ bearerOf (bearersIn (now (d .entry)) (now (t .entry)) v (now (word .entry))) ⌝ }
 {
     // No name is as long.
-    if word.len() > 0xFFFFFFFF {
+    if word.len() > 65535 {
         return Bearer::Nobody;
     }
-    let at = lower_bound(d, gap, h, order, word);
-    if !bears_at(d, gap, h, order, at, word) {
+    let at = lower_bound(d, t, v, order, word);
+    if !bears_at(d, t, v, order, at, word) {
         return Bearer::Nobody;
     }
-    if bears_at(d, gap, h, order, at + 1, word) {
+    if bears_at(d, t, v, order, at + 1, word) {
         return Bearer::Several;
     }
     Bearer::One(order[at])

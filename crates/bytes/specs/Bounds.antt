@@ -1,31 +1,28 @@
 -- How many bytes the parts have at most, and that their pieces lie inside the stream.
 use mathlib.Core.Path.{_≡_, refl, ap, _∙_}
-use mathlib.Core.Bool.{Bool, true, false, cond}
 use mathlib.Core.List.{List, [], _∷_}
 use Prim.Native.Nat.{ℕ, zero, suc, _+_, _-_, _*_, _/_, _<_, _≤_}
 use native.Mathlib.Nat.{suc-mul}
 use native.Mathlib.Omega.{arith}
-use borrow.Author.Tests.{ltb-true, ltb-false}
-use lib.Dec.{ltb}
 use lib.ListN.{length, getD, take, drop, length-append}
 use lib.Seq.{getD-take, length-take-le}
-use Rattle.model.specs.declared.Head.{Head}
+use Rattle.object_view.specs.declared.View.{View}
 use Rattle.model.specs.Bytes.{each}
 use Rattle.plan.specs.Groups.{all-at}
 use Rattle.plan.specs.SectionsPrograms.{All}
 use Rattle.stream.specs.Stream.{length-bytes}
-use Rattle.records.specs.Records.{namesAt, sectionAt, symbolAt}
+use Rattle.records.specs.View.{gapOf, symbolAt}
 use Rattle.catalogue.specs.Fits.{FunctionFits}
 use Rattle.catalogue.specs.Numbers.{homeAt, functionAt}
 use Rattle.insn.specs.Sanitized.{length-each-eight}
 use Rattle.code.specs.Code.{codeAt, bytesOf, code-read}
 use Rattle.model.specs.Instruction.{instructions}
-use Rattle.accepted.specs.Readable.{Readable, NameFits}
+use Rattle.records.specs.Readable.{Readable}
 use Rattle.pieces.specs.declared.Piece.{Piece}
-use Rattle.pieces.specs.Inside.{Known}
+use Rattle.pieces.specs.Inside.{Known, name-fits, all-placed as placed-known}
 use Rattle.pieces.specs.Pieces.{extentOf, pieceOf, AllPlaced}
 use Rattle.own.specs.declared.Own.{Own}
-use Rattle.own.specs.Own.{ownBytes, ownOf, nothing-bytes, zeros-length, zeros-small, data-length, data-section}
+use Rattle.own.specs.Own.{ownBytes, ownOf, nothing-bytes, zeros-length, zeros-small, data-length, data-fits}
 
 -- what all of the front have, each of it has
 pub all-front : (P : ℕ → Type 0) (n : ℕ) (l : List ℕ) → n ≤ length l → All P (take n l) → (k : ℕ) → k < n → P (getD l k 0)
@@ -51,53 +48,43 @@ unfolding instructions
 length-instructions zero d = refl
 length-instructions (suc n) d = ap suc (length-instructions n (drop 8 d))
 
-module _ (d : List ℕ) (gap : ℕ) (h : Head) (r : Readable d gap h) where
+module _ (d t : List ℕ) (v : View) (r : Readable d t v) where
   -- ---- names
 
-  name-fits : (which : Piece) (j : ℕ) → Known which h j → NameFits d gap h (extentOf which d gap h j)
-  unfolding extentOf
-  name-fits Piece.SectionName j l = r .section-name j l
-  name-fits Piece.SymbolName j l = r .symbol-name j l
-  name-fits Piece.MapName j l = go (ltb j (h .sections)) refl
-    where
-      go : (b : Bool) → ltb j (h .sections) ≡ b → NameFits d gap h (cond b (sectionAt d gap j .name) (symbolAt d gap h (j - h .sections) .name))
-      go true t = r .section-name j (ltb-true _ _ t)
-      go false t = let g : h .sections ≤ j = ltb-false _ _ t in r .symbol-name (j - h .sections) (omega arith)
+  pub all-placed : (which : Piece) (n : ℕ) (l : List ℕ) → n ≤ length l → All (Known which v) (take n l) → AllPlaced which d t v l n
+  all-placed which n l e a = placed-known d t v r which l n (all-front (Known which v) n l e a)
 
-  pub all-placed : (which : Piece) (n : ℕ) (l : List ℕ) → n ≤ length l → All (Known which h) (take n l) → AllPlaced which d gap h l n
-  all-placed which n l e a k g = name-fits which (getD l k 0) (all-front (Known which h) n l e a k g) .placed
-
-  pub names-bound : (which : Piece) (l : List ℕ) → All (Known which h) l → length (each (pieceOf which d gap h) l) ≤ length l * 65535
-  names-bound which l a = each-bound (pieceOf which d gap h) 65535 l (all-weaken (Known which h) (λ j. length (pieceOf which d gap h j) ≤ 65535) l one a)
+  pub names-bound : (which : Piece) (l : List ℕ) → All (Known which v) l → length (each (pieceOf which d t v) l) ≤ length l * 65535
+  names-bound which l a = each-bound (pieceOf which d t v) 65535 l (all-weaken (Known which v) (λ j. length (pieceOf which d t v j) ≤ 65535) l one a)
     where
-      one : (j : ℕ) → Known which h j → length (pieceOf which d gap h j) ≤ 65535
-      one j k = rw (length-bytes d gap (namesAt h + extentOf which d gap h j .at) (extentOf which d gap h j .length)) (name-fits which j k .short)
+      one : (j : ℕ) → Known which v j → length (pieceOf which d t v j) ≤ 65535
+      one j k = rw (length-bytes d (gapOf v) (v .at .names + extentOf which d t v j .at) (extentOf which d t v j .length)) (name-fits d t v r which j k .short)
 
   -- ---- own bytes
 
-  own-short : (n : ℕ) → length (ownBytes d gap h n) ≤ 16777216
-  own-short n = go (ownOf d gap h n) refl
+  own-short : (n : ℕ) → length (ownBytes d t v n) ≤ 16777216
+  own-short n = go (ownOf d t v n) refl
     where
-      go : (w : Own) → w ≡ ownOf d gap h n → length (ownBytes d gap h n) ≤ 16777216
-      go Own.Nothing e = rw (nothing-bytes d gap h n e) (omega arith)
-      go (Own.Zeros m) e = rw (zeros-length d gap h n m e) (zeros-small d gap h n m e (r .section-size))
-      go (Own.Bytes x) e = rw (data-length d gap h n x e) (data-section d gap h n (λ y. y .length ≤ 16777216) x e (r .data-length))
+      go : (w : Own) → w ≡ ownOf d t v n → length (ownBytes d t v n) ≤ 16777216
+      go Own.Nothing e = rw (nothing-bytes d t v n e) (omega arith)
+      go (Own.Zeros m) e = rw (zeros-length d t v n m e) (zeros-small d t v n r m e)
+      go (Own.Bytes x) e = rw (data-length d t v n x e) (data-fits d t v n r x e .short)
 
-  pub own-bound : (l : List ℕ) → length (each (ownBytes d gap h) l) ≤ length l * 16777216
-  own-bound l = each-bound (ownBytes d gap h) 16777216 l (all l)
+  pub own-bound : (l : List ℕ) → length (each (ownBytes d t v) l) ≤ length l * 16777216
+  own-bound l = each-bound (ownBytes d t v) 16777216 l (all l)
     where
-      all : (m : List ℕ) → All (λ n. length (ownBytes d gap h n) ≤ 16777216) m
+      all : (m : List ℕ) → All (λ n. length (ownBytes d t v n) ≤ 16777216) m
       all [] = tt
       all (n ∷ m) = (own-short n, all m)
 
   -- ---- code
 
-  code-short : (j : ℕ) → FunctionFits d gap h j → length (codeAt d gap h j) ≤ 16777216
+  code-short : (j : ℕ) → FunctionFits d t v j → length (codeAt d t v j) ≤ 16777216
   code-short j e =
-      let l : length (codeAt d gap h j) ≡ symbolAt d gap h j .size / 8 * 8 =
-      length-each-eight (functionAt d gap h j .code) ∙ ap (λ is. length is * 8) (code-read d gap h j) ∙ ap (λ n. n * 8) (length-instructions (symbolAt d gap h j .size / 8) (bytesOf d gap h j))
+      let l : length (codeAt d t v j) ≡ symbolAt d t v j .size / 8 * 8 =
+      length-each-eight (functionAt d t v j .code) ∙ ap (λ is. length is * 8) (code-read d t v j) ∙ ap (λ n. n * 8) (length-instructions (symbolAt d t v j .size / 8) (bytesOf d t v j))
       in
-      omega (arith, e .within, r .data-length (homeAt d gap h j) (e .home))
+      omega (arith, e .within, r .section-data (homeAt d t v j) (e .home) .short)
 
-  pub code-bound : (l : List ℕ) → All (FunctionFits d gap h) l → length (each (codeAt d gap h) l) ≤ length l * 16777216
-  code-bound l a = each-bound (codeAt d gap h) 16777216 l (all-weaken (FunctionFits d gap h) (λ j. length (codeAt d gap h j) ≤ 16777216) l code-short a)
+  pub code-bound : (l : List ℕ) → All (FunctionFits d t v) l → length (each (codeAt d t v) l) ≤ length l * 16777216
+  code-bound l a = each-bound (codeAt d t v) 16777216 l (all-weaken (FunctionFits d t v) (λ j. length (codeAt d t v j) ≤ 16777216) l code-short a)

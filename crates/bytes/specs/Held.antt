@@ -7,7 +7,7 @@ use native.Mathlib.Nat.{mul-le-mul, zero-add}
 use native.Mathlib.Omega.{arith}
 use lib.ListN.{length, getD, take, drop, length-append, length-drop}
 use lib.Seq.{length-take-le}
-use Rattle.model.specs.declared.Head.{Head}
+use Rattle.object_view.specs.declared.View.{View}
 use Rattle.model.specs.Bytes.{each}
 use Rattle.model.specs.Catalogue.{Catalogue}
 use Rattle.model.specs.Contents.{licenceOf}
@@ -19,7 +19,7 @@ use Rattle.view.specs.View.{objectIn}
 use Rattle.catalogue.specs.Numbers.{sectionNumbers, programNumbers, functionNumbers, mapNumbers}
 use Rattle.catalogue.specs.Fits.{FunctionFits, MapFits}
 use Rattle.accepted.specs.Numbers.{sections-below, programs-listed, functions-fit, maps-fit}
-use Rattle.accepted.specs.Readable.{Readable}
+use Rattle.records.specs.Readable.{Readable}
 use Rattle.pieces.specs.declared.Piece.{Piece}
 use Rattle.pieces.specs.Inside.{Known}
 use Rattle.pieces.specs.Pieces.{pieceOf}
@@ -27,16 +27,16 @@ use Rattle.own.specs.Own.{ownBytes}
 use Rattle.code.specs.Code.{codeAt, AllFit}
 use Rattle.tables.specs.declared.Counts.{Counts}
 use Rattle.bytes.specs.declared.Places.{Places}
-use Rattle.bytes.specs.Parts.{catalogue, rises, licence-is, section-names, program-names, function-names, function-code, map-names, map-own}
+use Rattle.bytes.specs.Parts.{catalogue, licence-is, section-names, program-names, function-names, function-code, map-names, map-own}
 use Rattle.bytes.specs.Licence.{licence-short}
 use Rattle.bytes.specs.Bounds.{all-front, all-weaken, names-bound, code-bound, own-bound}
 
 -- the four tables, each at the front of its list
-pub record Held (d : List ℕ) (gap : ℕ) (h : Head) (n : Counts) (s p f m : List ℕ) : Type 0 where
-  pub sections : take (n .sections) s ≡ sectionNumbers d gap h
-  pub programs : take (n .programs) p ≡ programNumbers d gap h
-  pub functions : take (n .functions) f ≡ functionNumbers d gap h
-  pub maps : take (n .maps) m ≡ mapNumbers d gap h
+pub record Held (d t : List ℕ) (v : View) (n : Counts) (s p f m : List ℕ) : Type 0 where
+  pub sections : take (n .sections) s ≡ sectionNumbers d t v
+  pub programs : take (n .programs) p ≡ programNumbers d t v
+  pub functions : take (n .functions) f ≡ functionNumbers d t v
+  pub maps : take (n .maps) m ≡ mapNumbers d t v
   pub sections-in : n .sections ≤ length s
   pub programs-in : n .programs ≤ length p
   pub functions-in : n .functions ≤ length f
@@ -109,96 +109,96 @@ laid-more {t} {a} {l} {out} p x next b e room f =
       held = f ∙ ap (λ (o : List ℕ). take a o ++ (x ++ drop b o)) (p .held) ∙ (rw q at k);
     }
 
-module _ (d : List ℕ) (gap : ℕ) (h : Head) (r : Readable d gap h) (ok : objectRefusal (objectIn d gap h) ≡ none) (n : Counts) (s p f m : List ℕ) (t : Held d gap h n s p f m) where
+module _ (d t : List ℕ) (v : View) (r : Readable d t v) (ok : objectRefusal (objectIn d t v) ≡ none) (n : Counts) (s p f m : List ℕ) (held : Held d t v n s p f m) where
   -- ---- what the numbers stand for is there
 
-  pub sections-known : All (Known Piece.SectionName h) (take (n .sections) s)
-  sections-known = rw (t .sections) (sections-below d gap h ok)
+  pub sections-known : All (Known Piece.SectionName v) (take (n .sections) s)
+  sections-known = rw (held .sections) (sections-below d t v ok)
 
-  pub programs-known : All (Known Piece.SymbolName h) (take (n .programs) p)
-  programs-known = rw (t .programs) (programs-listed d gap h ok)
+  pub programs-known : All (Known Piece.SymbolName v) (take (n .programs) p)
+  programs-known = rw (held .programs) (programs-listed d t v ok)
 
-  functions-fitting : All (FunctionFits d gap h) (take (n .functions) f)
-  functions-fitting = rw (t .functions) (functions-fit d gap h ok (rises d gap h r))
+  functions-fitting : All (FunctionFits d t v) (take (n .functions) f)
+  functions-fitting = rw (held .functions) (functions-fit d t v ok r)
 
-  pub functions-known : All (Known Piece.SymbolName h) (take (n .functions) f)
-  functions-known = all-weaken (FunctionFits d gap h) (Known Piece.SymbolName h) (take (n .functions) f) (λ j e. e .symbol) functions-fitting
+  pub functions-known : All (Known Piece.SymbolName v) (take (n .functions) f)
+  functions-known = all-weaken (FunctionFits d t v) (Known Piece.SymbolName v) (take (n .functions) f) (λ j e. e .symbol) functions-fitting
 
-  pub all-fit : AllFit d gap h f (n .functions)
-  all-fit = all-front (FunctionFits d gap h) (n .functions) f (t .functions-in) functions-fitting
+  pub all-fit : AllFit d t v f (n .functions)
+  all-fit = all-front (FunctionFits d t v) (n .functions) f (held .functions-in) functions-fitting
 
-  maps-fitting : All (MapFits d gap h) (take (n .maps) m)
-  maps-fitting = rw (t .maps) (maps-fit d gap h ok (rises d gap h r))
+  maps-fitting : All (MapFits d t v) (take (n .maps) m)
+  maps-fitting = rw (held .maps) (maps-fit d t v ok r)
 
-  pub maps-known : All (Known Piece.MapName h) (take (n .maps) m)
-  maps-known = all-weaken (MapFits d gap h) (Known Piece.MapName h) (take (n .maps) m) (λ j e. e .number) maps-fitting
+  pub maps-known : All (Known Piece.MapName v) (take (n .maps) m)
+  maps-known = all-weaken (MapFits d t v) (Known Piece.MapName v) (take (n .maps) m) (λ j e. e .number) maps-fitting
 
-  pub all-maps-fit : (k : ℕ) → k < n .maps → MapFits d gap h (getD m k 0)
-  all-maps-fit = all-front (MapFits d gap h) (n .maps) m (t .maps-in) maps-fitting
+  pub all-maps-fit : (k : ℕ) → k < n .maps → MapFits d t v (getD m k 0)
+  all-maps-fit = all-front (MapFits d t v) (n .maps) m (held .maps-in) maps-fitting
 
   -- ---- the parts, by the tables in hand
 
   abbrev c : Catalogue
-  c = catalogue d gap h
+  c = catalogue d t v
 
-  pub names-of-sections : each (pieceOf Piece.SectionName d gap h) (take (n .sections) s) ≡ each sectionName (c .sections)
-  names-of-sections = rw (t .sections) (sym (section-names d gap h r ok))
+  pub names-of-sections : each (pieceOf Piece.SectionName d t v) (take (n .sections) s) ≡ each sectionName (c .sections)
+  names-of-sections = rw (held .sections) (sym (section-names d t v r ok))
 
-  pub names-of-programs : each (pieceOf Piece.SymbolName d gap h) (take (n .programs) p) ≡ each programName (c .programs)
-  names-of-programs = rw (t .programs) (sym (program-names d gap h r ok))
+  pub names-of-programs : each (pieceOf Piece.SymbolName d t v) (take (n .programs) p) ≡ each programName (c .programs)
+  names-of-programs = rw (held .programs) (sym (program-names d t v r ok))
 
-  pub names-of-functions : each (pieceOf Piece.SymbolName d gap h) (take (n .functions) f) ≡ each functionName (c .functions)
-  names-of-functions = rw (t .functions) (sym (function-names d gap h r ok))
+  pub names-of-functions : each (pieceOf Piece.SymbolName d t v) (take (n .functions) f) ≡ each functionName (c .functions)
+  names-of-functions = rw (held .functions) (sym (function-names d t v r ok))
 
-  pub code-of-functions : each (codeAt d gap h) (take (n .functions) f) ≡ each functionCode (c .functions)
-  code-of-functions = rw (t .functions) (sym (function-code d gap h r ok))
+  pub code-of-functions : each (codeAt d t v) (take (n .functions) f) ≡ each functionCode (c .functions)
+  code-of-functions = rw (held .functions) (sym (function-code d t v r ok))
 
-  pub names-of-maps : each (pieceOf Piece.MapName d gap h) (take (n .maps) m) ≡ each mapName (c .maps)
-  names-of-maps = rw (t .maps) (sym (map-names d gap h r ok))
+  pub names-of-maps : each (pieceOf Piece.MapName d t v) (take (n .maps) m) ≡ each mapName (c .maps)
+  names-of-maps = rw (held .maps) (sym (map-names d t v r ok))
 
-  pub own-of-maps : each (ownBytes d gap h) (take (n .maps) m) ≡ each mapOwn (c .maps)
-  own-of-maps = rw (t .maps) (sym (map-own d gap h r ok))
+  pub own-of-maps : each (ownBytes d t v) (take (n .maps) m) ≡ each mapOwn (c .maps)
+  own-of-maps = rw (held .maps) (sym (map-own d t v r ok))
 
   -- ---- no sum is large
 
   bound : (k b : ℕ) (l : List ℕ) (x : ℕ) → k ≤ length l → k ≤ 69632 → b ≤ 16777216 → x ≤ length (take k l) * b → x ≤ 69632 * 16777216
-  bound k b l x e g u v =
+  bound k b l x e g u z =
       let q : length (take k l) ≡ k = length-take-le k l e in
-      let w : x ≤ k * b = rw q at v in
+      let w : x ≤ k * b = rw q at z in
       let y : k * b ≤ 69632 * 16777216 = mul-le-mul g u in
       omega arith
 
-  pub small-sections : length (each (pieceOf Piece.SectionName d gap h) (take (n .sections) s)) ≤ 69632 * 16777216
-  small-sections = bound (n .sections) 65535 s _ (t .sections-in) (t .few-sections) (omega arith) (names-bound d gap h r Piece.SectionName (take (n .sections) s) sections-known)
+  pub small-sections : length (each (pieceOf Piece.SectionName d t v) (take (n .sections) s)) ≤ 69632 * 16777216
+  small-sections = bound (n .sections) 65535 s _ (held .sections-in) (held .few-sections) (omega arith) (names-bound d t v r Piece.SectionName (take (n .sections) s) sections-known)
 
-  pub small-programs : length (each (pieceOf Piece.SymbolName d gap h) (take (n .programs) p)) ≤ 69632 * 16777216
-  small-programs = bound (n .programs) 65535 p _ (t .programs-in) (t .few-programs) (omega arith) (names-bound d gap h r Piece.SymbolName (take (n .programs) p) programs-known)
+  pub small-programs : length (each (pieceOf Piece.SymbolName d t v) (take (n .programs) p)) ≤ 69632 * 16777216
+  small-programs = bound (n .programs) 65535 p _ (held .programs-in) (held .few-programs) (omega arith) (names-bound d t v r Piece.SymbolName (take (n .programs) p) programs-known)
 
-  pub small-functions : length (each (pieceOf Piece.SymbolName d gap h) (take (n .functions) f)) ≤ 69632 * 16777216
-  small-functions = bound (n .functions) 65535 f _ (t .functions-in) (omega (arith, t .few-functions)) (omega arith) (names-bound d gap h r Piece.SymbolName (take (n .functions) f) functions-known)
+  pub small-functions : length (each (pieceOf Piece.SymbolName d t v) (take (n .functions) f)) ≤ 69632 * 16777216
+  small-functions = bound (n .functions) 65535 f _ (held .functions-in) (omega (arith, held .few-functions)) (omega arith) (names-bound d t v r Piece.SymbolName (take (n .functions) f) functions-known)
 
-  pub small-code : length (each (codeAt d gap h) (take (n .functions) f)) ≤ 69632 * 16777216
-  small-code = bound (n .functions) 16777216 f _ (t .functions-in) (omega (arith, t .few-functions)) (omega arith) (code-bound d gap h r (take (n .functions) f) functions-fitting)
+  pub small-code : length (each (codeAt d t v) (take (n .functions) f)) ≤ 69632 * 16777216
+  small-code = bound (n .functions) 16777216 f _ (held .functions-in) (omega (arith, held .few-functions)) (omega arith) (code-bound d t v r (take (n .functions) f) functions-fitting)
 
-  pub small-maps : length (each (pieceOf Piece.MapName d gap h) (take (n .maps) m)) ≤ 69632 * 16777216
-  small-maps = bound (n .maps) 65535 m _ (t .maps-in) (t .few-maps) (omega arith) (names-bound d gap h r Piece.MapName (take (n .maps) m) maps-known)
+  pub small-maps : length (each (pieceOf Piece.MapName d t v) (take (n .maps) m)) ≤ 69632 * 16777216
+  small-maps = bound (n .maps) 65535 m _ (held .maps-in) (held .few-maps) (omega arith) (names-bound d t v r Piece.MapName (take (n .maps) m) maps-known)
 
-  pub small-own : length (each (ownBytes d gap h) (take (n .maps) m)) ≤ 69632 * 16777216
-  small-own = bound (n .maps) 16777216 m _ (t .maps-in) (t .few-maps) (omega arith) (own-bound d gap h r (take (n .maps) m))
+  pub small-own : length (each (ownBytes d t v) (take (n .maps) m)) ≤ 69632 * 16777216
+  small-own = bound (n .maps) 16777216 m _ (held .maps-in) (held .few-maps) (omega arith) (own-bound d t v r (take (n .maps) m))
 
   -- ---- the places
 
-  pub places-are : (l a b e g i k : ℕ) → l ≡ length (licenceOf (objectIn d gap h))
-      → a ≡ length (each (pieceOf Piece.SectionName d gap h) (take (n .sections) s))
-      → b ≡ length (each (pieceOf Piece.SymbolName d gap h) (take (n .programs) p))
-      → e ≡ length (each (pieceOf Piece.SymbolName d gap h) (take (n .functions) f))
-      → g ≡ length (each (codeAt d gap h) (take (n .functions) f))
-      → i ≡ length (each (pieceOf Piece.MapName d gap h) (take (n .maps) m))
-      → k ≡ length (each (ownBytes d gap h) (take (n .maps) m))
+  pub places-are : (l a b e g i k : ℕ) → l ≡ length (licenceOf (objectIn d t v))
+      → a ≡ length (each (pieceOf Piece.SectionName d t v) (take (n .sections) s))
+      → b ≡ length (each (pieceOf Piece.SymbolName d t v) (take (n .programs) p))
+      → e ≡ length (each (pieceOf Piece.SymbolName d t v) (take (n .functions) f))
+      → g ≡ length (each (codeAt d t v) (take (n .functions) f))
+      → i ≡ length (each (pieceOf Piece.MapName d t v) (take (n .maps) m))
+      → k ≡ length (each (ownBytes d t v) (take (n .maps) m))
       → At c (record { sections = l; programs = l + a; functions = l + a + b; code = l + a + b + e; maps = l + a + b + e + g; own = l + a + b + e + g + i; end = l + a + b + e + g + i + k })
   unfolding sectionsAt programsAt functionsAt codeStart mapsAt ownStart
   places-are l a b e g i k q₀ q₁ q₂ q₃ q₄ q₅ q₆ =
-      let x₀ : l ≡ length (c .licence) = q₀ ∙ ap length (sym (licence-is d gap h r ok)) in
+      let x₀ : l ≡ length (c .licence) = q₀ ∙ ap length (sym (licence-is d t v r ok)) in
       let x₁ : a ≡ length (each sectionName (c .sections)) = q₁ ∙ ap length names-of-sections in
       let x₂ : b ≡ length (each programName (c .programs)) = q₂ ∙ ap length names-of-programs in
       let x₃ : e ≡ length (each functionName (c .functions)) = q₃ ∙ ap length names-of-functions in
@@ -216,20 +216,20 @@ module _ (d : List ℕ) (gap : ℕ) (h : Head) (r : Readable d gap h) (ok : obje
         end = last;
         small =
             omega
-            (arith, last, q₀, q₁, q₂, q₃, q₄, q₅, q₆, licence-short d gap h r, small-sections, small-programs, small-functions, small-code, small-maps, small-own);
+            (arith, last, q₀, q₁, q₂, q₃, q₄, q₅, q₆, licence-short d t v r, small-sections, small-programs, small-functions, small-code, small-maps, small-own);
       }
 
   -- ---- all of them
 
   pub bytes-length : length (bytesOf c)
-      ≡ length (licenceOf (objectIn d gap h)) + length (each (pieceOf Piece.SectionName d gap h) (take (n .sections) s))
-      + length (each (pieceOf Piece.SymbolName d gap h) (take (n .programs) p)) + length (each (pieceOf Piece.SymbolName d gap h) (take (n .functions) f))
-      + length (each (codeAt d gap h) (take (n .functions) f)) + length (each (pieceOf Piece.MapName d gap h) (take (n .maps) m))
-      + length (each (ownBytes d gap h) (take (n .maps) m))
+      ≡ length (licenceOf (objectIn d t v)) + length (each (pieceOf Piece.SectionName d t v) (take (n .sections) s))
+      + length (each (pieceOf Piece.SymbolName d t v) (take (n .programs) p)) + length (each (pieceOf Piece.SymbolName d t v) (take (n .functions) f))
+      + length (each (codeAt d t v) (take (n .functions) f)) + length (each (pieceOf Piece.MapName d t v) (take (n .maps) m))
+      + length (each (ownBytes d t v) (take (n .maps) m))
   bytes-length = sym (places-are _ _ _ _ _ _ _ refl refl refl refl refl refl refl .end)
 
-  pub bytes-are : ((((((licenceOf (objectIn d gap h) ++ each (pieceOf Piece.SectionName d gap h) (take (n .sections) s)) ++ each (pieceOf Piece.SymbolName d gap h) (take (n .programs) p))
-      ++ each (pieceOf Piece.SymbolName d gap h) (take (n .functions) f)) ++ each (codeAt d gap h) (take (n .functions) f)) ++ each (pieceOf Piece.MapName d gap h) (take (n .maps) m))
-      ++ each (ownBytes d gap h) (take (n .maps) m)) ≡ bytesOf c
+  pub bytes-are : ((((((licenceOf (objectIn d t v) ++ each (pieceOf Piece.SectionName d t v) (take (n .sections) s)) ++ each (pieceOf Piece.SymbolName d t v) (take (n .programs) p))
+      ++ each (pieceOf Piece.SymbolName d t v) (take (n .functions) f)) ++ each (codeAt d t v) (take (n .functions) f)) ++ each (pieceOf Piece.MapName d t v) (take (n .maps) m))
+      ++ each (ownBytes d t v) (take (n .maps) m)) ≡ bytesOf c
   unfolding bytesOf
-  bytes-are = rw (← licence-is d gap h r ok, names-of-sections, names-of-programs, names-of-functions, code-of-functions, names-of-maps, own-of-maps, append-assoc, append-assoc, append-assoc, append-assoc, append-assoc)
+  bytes-are = rw (← licence-is d t v r ok, names-of-sections, names-of-programs, names-of-functions, code-of-functions, names-of-maps, own-of-maps, append-assoc, append-assoc, append-assoc, append-assoc, append-assoc)

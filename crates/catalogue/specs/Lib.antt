@@ -1,3 +1,3 @@
--- The catalogue of a deposit's object, by record numbers.
+-- The catalogue of an object, by record numbers.
 pub mod Numbers
 pub mod Fits

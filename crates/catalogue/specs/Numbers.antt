@@ -6,165 +6,161 @@ use Prim.Native.Nat.{ℕ, _+_, _-_, _<_}
 use lib.Dec.{ltb}
 use Rattle.lists.specs.Tab.{rows}
 use Rattle.model.specs.declared.Endianness.{Endianness}
-use Rattle.model.specs.declared.Head.{Head}
+use Rattle.object_view.specs.declared.View.{View}
 use Rattle.model.specs.declared.EbpfSectionKind.{EbpfSectionKind as Kind}
 use Rattle.model.specs.Bytes.{isSome}
 use Rattle.model.specs.Catalogue.{SectionEntry, Program, Function, Map, Relocation}
 use Rattle.model.specs.Contents.{catalogueOf}
-use Rattle.model.specs.Deposit.{byteOrder}
 use Rattle.model.specs.ProgramName.{programOf}
 use Rattle.model.specs.SectionKind.{isKind, kindOf}
 use Rattle.model.specs.Table.{tableOf}
 use Rattle.plan.specs.ByNumber.{rawSection}
 use Rattle.plan.specs.FunctionsMaps.{functionsIn, functionIn, functions-are, mapsIn, mapIn, mapName, maps-are}
 use Rattle.plan.specs.Relocations.{keeps, relocationsIn, relocations-are}
-use Rattle.plan.specs.SectionsPrograms.{home, sectionsIn, entryIn, sections-are, programsIn, programIn, programs-are, Rising}
-use Rattle.records.specs.Records.{sectionAt, symbolAt}
-use Rattle.view.specs.View.{sectionFrom, symbolFrom, sectionIn, symbolIn, relocIn, objectIn}
+use Rattle.plan.specs.SectionsPrograms.{home, sectionsIn, entryIn, sections-are, programsIn, programIn, programs-are}
+use Rattle.records.specs.View.{nameIn, sectionAt, symbolAt}
+use Rattle.records.specs.Readable.{Readable}
+use Rattle.view.specs.View.{sectionFrom, symbolFrom, sectionIn, symbolIn, relocIn, objectIn, rising}
 use Rattle.keys.specs.declared.By.{By}
-use Rattle.keys.specs.Keys.{keyOf, nameAt, mapNameAt}
+use Rattle.keys.specs.Keys.{keyOf, mapNameAt}
 use Rattle.groups.specs.Cut.{raw-is}
 
-module _ (d : List ℕ) (gap : ℕ) (h : Head) where
+module _ (d t : List ℕ) (v : View) where
   abbrev order : Endianness
-  order = byteOrder (h .order)
+  order = v .order
 
   -- the section that a symbol lies in, by number; 0 where there is none
   abbrev pub homeAt : ℕ → ℕ
-  homeAt = home order (sectionIn d gap h) (h .sections) (symbolIn d gap h) (h .symbols)
+  homeAt = home order (sectionIn d t v) (v .sections) (symbolIn d t v) (v .symbols)
 
   -- ---- the numbers that the sections list one after the other
 
   abbrev pub sectionsFrom : ℕ → List ℕ
-  sectionsFrom = sectionsIn order (sectionIn d gap h) (h .sections) (symbolIn d gap h) (h .symbols)
+  sectionsFrom = sectionsIn order (sectionIn d t v) (v .sections) (symbolIn d t v) (v .symbols)
 
   abbrev pub programsFrom : ℕ → List ℕ
-  programsFrom = programsIn order (sectionIn d gap h) (h .sections) (symbolIn d gap h) (h .symbols)
+  programsFrom = programsIn order (sectionIn d t v) (v .sections) (symbolIn d t v) (v .symbols)
 
   abbrev pub functionsFrom : ℕ → List ℕ
-  functionsFrom = functionsIn order (sectionIn d gap h) (h .sections) (symbolIn d gap h) (h .symbols)
+  functionsFrom = functionsIn order (sectionIn d t v) (v .sections) (symbolIn d t v) (v .symbols)
 
   -- a number below the count of sections is a section's, else a symbol's
   abbrev pub mapsFrom : ℕ → List ℕ
-  mapsFrom = mapsIn order (sectionIn d gap h) (h .sections) (symbolIn d gap h) (h .symbols)
+  mapsFrom = mapsIn order (sectionIn d t v) (v .sections) (symbolIn d t v) (v .symbols)
 
   unfoldable pub sectionCandidates : List ℕ
-  sectionCandidates = rows sectionsFrom (h .sections)
+  sectionCandidates = rows sectionsFrom (v .sections)
 
   unfoldable pub programCandidates : List ℕ
-  programCandidates = rows programsFrom (h .sections)
+  programCandidates = rows programsFrom (v .sections)
 
   unfoldable pub functionCandidates : List ℕ
-  functionCandidates = rows functionsFrom (h .sections)
+  functionCandidates = rows functionsFrom (v .sections)
 
   unfoldable pub mapCandidates : List ℕ
-  mapCandidates = rows mapsFrom (h .sections)
+  mapCandidates = rows mapsFrom (v .sections)
 
   -- ---- what a number stands for
 
   abbrev pub entryAt : ℕ → SectionEntry
-  entryAt = entryIn order (sectionIn d gap h) (h .sections) (symbolIn d gap h) (h .symbols)
+  entryAt = entryIn order (sectionIn d t v) (v .sections) (symbolIn d t v) (v .symbols)
 
   abbrev pub programAt : ℕ → Program
-  programAt = programIn order (sectionIn d gap h) (h .sections) (symbolIn d gap h) (h .symbols)
+  programAt = programIn order (sectionIn d t v) (v .sections) (symbolIn d t v) (v .symbols)
 
   abbrev pub functionAt : ℕ → Function
-  functionAt = functionIn order (sectionIn d gap h) (h .sections) (symbolIn d gap h) (h .symbols)
+  functionAt = functionIn order (sectionIn d t v) (v .sections) (symbolIn d t v) (v .symbols)
 
   abbrev pub mapAt : ℕ → Map
-  mapAt = mapIn order (sectionIn d gap h) (h .sections) (symbolIn d gap h) (h .symbols)
+  mapAt = mapIn order (sectionIn d t v) (v .sections) (symbolIn d t v) (v .symbols)
 
   -- ---- the tables of numbers
 
   unfoldable pub sectionNumbers : List ℕ
-  sectionNumbers = tableOf (keyOf By.SectionName d gap h) sectionCandidates
+  sectionNumbers = tableOf (keyOf By.SectionName d t v) sectionCandidates
 
   unfoldable pub programNumbers : List ℕ
-  programNumbers = tableOf (keyOf By.SymbolName d gap h) programCandidates
+  programNumbers = tableOf (keyOf By.SymbolName d t v) programCandidates
 
   unfoldable pub functionNumbers : List ℕ
-  functionNumbers = tableOf (keyOf By.SymbolAddress d gap h) functionCandidates
+  functionNumbers = tableOf (keyOf By.SymbolAddress d t v) functionCandidates
 
   unfoldable pub mapNumbers : List ℕ
-  mapNumbers = tableOf (keyOf By.MapName d gap h) mapCandidates
+  mapNumbers = tableOf (keyOf By.MapName d t v) mapCandidates
 
   -- ---- their keys are those of the object's tables
 
-  section-name-key : keyOf By.SectionName d gap h ≡ (λ i. sectionIn d gap h i .name)
+  section-name-key : keyOf By.SectionName d t v ≡ (λ i. sectionIn d t v i .name)
   unfolding keyOf sectionFrom
   section-name-key = refl
 
-  symbol-name-key : keyOf By.SymbolName d gap h ≡ (λ j. symbolIn d gap h j .name)
+  symbol-name-key : keyOf By.SymbolName d t v ≡ (λ j. symbolIn d t v j .name)
   unfolding keyOf symbolFrom
   symbol-name-key = refl
 
-  address-is : (j : ℕ) → symbolAt d gap h j .address ≡ symbolIn d gap h j .address
+  address-is : (j : ℕ) → symbolAt d t v j .address ≡ symbolIn d t v j .address
   unfolding symbolFrom
   address-is j = refl
 
-  address-key : keyOf By.SymbolAddress d gap h ≡ (λ j. rawSection (symbolIn d gap h j) ∷ symbolIn d gap h j .address ∷ [])
+  address-key : keyOf By.SymbolAddress d t v ≡ (λ j. rawSection (symbolIn d t v j) ∷ symbolIn d t v j .address ∷ [])
   unfolding keyOf
-  address-key = λ k j. (let e : symbolAt d gap h j .section .0 ≡ rawSection (symbolIn d gap h j) = sym (raw-is d gap h (symbolAt d gap h j)) in e k) ∷ address-is j k ∷ []
+  address-key = λ k j. (let e : symbolAt d t v j .section .0 ≡ rawSection (symbolIn d t v j) = sym (raw-is d t v (symbolAt d t v j)) in e k) ∷ address-is j k ∷ []
 
-  map-name-key : keyOf By.MapName d gap h ≡ mapName order (sectionIn d gap h) (h .sections) (symbolIn d gap h) (h .symbols)
+  map-name-key : keyOf By.MapName d t v ≡ mapName order (sectionIn d t v) (v .sections) (symbolIn d t v) (v .symbols)
   unfolding keyOf mapNameAt sectionFrom symbolFrom
-  map-name-key = λ k n. go n (ltb n (h .sections)) k
+  map-name-key = λ k n. go n (ltb n (v .sections)) k
     where
       go : (n : ℕ) (b : Bool)
-          → nameAt d gap h (cond b (sectionAt d gap n .name) (symbolAt d gap h (n - h .sections) .name)) ≡ cond b (sectionIn d gap h n .name) (symbolIn d gap h (n - h .sections) .name)
+          → nameIn d v (cond b (sectionAt d t v n .name) (symbolAt d t v (n - v .sections) .name)) ≡ cond b (sectionIn d t v n .name) (symbolIn d t v (n - v .sections) .name)
       go n true = refl
       go n false = refl
 
   -- ---- the catalogue's tables
 
-  -- the indexes of the sections rise
-  abbrev pub Rises : Type 0
-  Rises = Rising order (sectionIn d gap h) (h .sections) (symbolIn d gap h) (h .symbols)
-
   -- no section is refused with 8
   abbrev pub Named : Type 0
-  Named = (i : ℕ) → i < h .sections → isKind Kind.Program (kindOf (sectionIn d gap h i)) ≡ true → isSome (programOf (sectionIn d gap h i .name)) ≡ true
+  Named = (i : ℕ) → i < v .sections → isKind Kind.Program (kindOf (sectionIn d t v i)) ≡ true → isSome (programOf (sectionIn d t v i .name)) ≡ true
 
-  pub sections-by : catalogueOf (objectIn d gap h) .sections ≡ map entryAt sectionNumbers
+  pub sections-by : catalogueOf (objectIn d t v) .sections ≡ map entryAt sectionNumbers
   unfolding objectIn sectionNumbers sectionCandidates
-  sections-by = sections-are order (sectionIn d gap h) (h .sections) (symbolIn d gap h) (h .symbols) ∙ ap (λ key. map entryAt (tableOf key sectionCandidates)) (sym section-name-key)
+  sections-by = sections-are order (sectionIn d t v) (v .sections) (symbolIn d t v) (v .symbols) ∙ ap (λ key. map entryAt (tableOf key sectionCandidates)) (sym section-name-key)
 
-  pub programs-by : Rises → Named → catalogueOf (objectIn d gap h) .programs ≡ map programAt programNumbers
+  pub programs-by : Readable d t v → Named → catalogueOf (objectIn d t v) .programs ≡ map programAt programNumbers
   unfolding objectIn programNumbers programCandidates
-  programs-by rise named =
-      programs-are order (sectionIn d gap h) (h .sections) (symbolIn d gap h) (h .symbols) rise named ∙ ap (λ key. map programAt (tableOf key programCandidates)) (sym symbol-name-key)
+  programs-by r named =
+      programs-are order (sectionIn d t v) (v .sections) (symbolIn d t v) (v .symbols) (rising d t v (r .sections-rise)) named ∙ ap (λ key. map programAt (tableOf key programCandidates)) (sym symbol-name-key)
 
-  pub functions-by : Rises → catalogueOf (objectIn d gap h) .functions ≡ map functionAt functionNumbers
+  pub functions-by : Readable d t v → catalogueOf (objectIn d t v) .functions ≡ map functionAt functionNumbers
   unfolding objectIn functionNumbers functionCandidates
-  functions-by rise =
-      functions-are order (sectionIn d gap h) (h .sections) (symbolIn d gap h) (h .symbols) rise ∙ ap (λ key. map functionAt (tableOf key functionCandidates)) (sym address-key)
+  functions-by r =
+      functions-are order (sectionIn d t v) (v .sections) (symbolIn d t v) (v .symbols) (rising d t v (r .sections-rise)) ∙ ap (λ key. map functionAt (tableOf key functionCandidates)) (sym address-key)
 
-  pub maps-by : Rises → catalogueOf (objectIn d gap h) .maps ≡ map mapAt mapNumbers
+  pub maps-by : Readable d t v → catalogueOf (objectIn d t v) .maps ≡ map mapAt mapNumbers
   unfolding objectIn mapNumbers mapCandidates
-  maps-by rise =
-      maps-are order (sectionIn d gap h) (h .sections) (symbolIn d gap h) (h .symbols) rise ∙ ap (λ key. map mapAt (tableOf key mapCandidates)) (sym map-name-key)
+  maps-by r =
+      maps-are order (sectionIn d t v) (v .sections) (symbolIn d t v) (v .symbols) (rising d t v (r .sections-rise)) ∙ ap (λ key. map mapAt (tableOf key mapCandidates)) (sym map-name-key)
 
   -- ---- relocations: those of each section that keeps any
 
   abbrev pub firstOf : ℕ → ℕ
-  firstOf i = sectionAt d gap i .relocations .at
+  firstOf i = sectionAt d t v i .relocations .at
 
   abbrev pub countOf : ℕ → ℕ
-  countOf i = sectionAt d gap i .relocations .length
+  countOf i = sectionAt d t v i .relocations .length
 
   abbrev pub relocationsFrom : ℕ → List Relocation
-  relocationsFrom = relocationsIn order (sectionIn d gap h) (h .sections) (symbolIn d gap h) (h .symbols) (relocIn d gap h) firstOf countOf
+  relocationsFrom = relocationsIn order (sectionIn d t v) (v .sections) (symbolIn d t v) (v .symbols) (relocIn d t v) firstOf countOf
 
   -- whether a section keeps its relocations
   abbrev pub keepsAt : ℕ → Bool
-  keepsAt = keeps order (sectionIn d gap h) (h .sections) (symbolIn d gap h) (h .symbols) (relocIn d gap h) firstOf countOf
+  keepsAt = keeps order (sectionIn d t v) (v .sections) (symbolIn d t v) (v .symbols) (relocIn d t v) firstOf countOf
 
   -- no section that keeps any is refused with 4
   abbrev pub Targeted : Type 0
-  Targeted = (i : ℕ) → i < h .sections → keepsAt i ≡ true → (k : ℕ) → k < countOf i → isSome (relocIn d gap h (firstOf i + k) .symbol) ≡ true
+  Targeted = (i : ℕ) → i < v .sections → keepsAt i ≡ true → (k : ℕ) → k < countOf i → isSome (relocIn d t v (firstOf i + k) .symbol) ≡ true
 
-  pub relocations-by : Rises → Targeted → catalogueOf (objectIn d gap h) .relocations ≡ rows relocationsFrom (h .sections)
+  pub relocations-by : Readable d t v → Targeted → catalogueOf (objectIn d t v) .relocations ≡ rows relocationsFrom (v .sections)
   unfolding objectIn sectionFrom
-  relocations-by rise t =
-      relocations-are order (sectionIn d gap h) (h .sections) (symbolIn d gap h) (h .symbols) (relocIn d gap h) firstOf countOf rise
-      (record { runs = λ i l. refl; targeted = t })
+  relocations-by r targeted =
+      relocations-are order (sectionIn d t v) (v .sections) (symbolIn d t v) (v .symbols) (relocIn d t v) firstOf countOf (rising d t v (r .sections-rise))
+      (record { runs = λ i l. refl; targeted = targeted })

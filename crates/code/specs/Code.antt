@@ -7,131 +7,129 @@ use native.Mathlib.Nat.{le-trans}
 use native.Mathlib.Omega.{arith}
 use lib.ListN.{length, getD}
 use Rattle.lists.specs.Tab.{tab}
-use Rattle.model.specs.declared.Head.{Head}
+use Rattle.object_view.specs.declared.View.{View}
 use Rattle.model.specs.declared.SectionRecord.{SectionRecord}
 use Rattle.model.specs.declared.SymbolRecord.{SymbolRecord}
 use Rattle.model.specs.declared.EbpfSectionKind.{EbpfSectionKind as Kind}
-use Rattle.model.specs.Bytes.{each, little, part, AllBytes}
+use Rattle.model.specs.Bytes.{each, part, AllBytes}
 use Rattle.model.specs.Catalogue.{Function}
 use Rattle.model.specs.Contents.{functionAt as functionOf, programFunction}
-use Rattle.model.specs.Deposit.{byteOrder}
 use Rattle.model.specs.Instruction.{instructions, eight}
 use Rattle.model.specs.Lent.{functionCode}
 use Rattle.model.specs.SectionKind.{isKind, kindOf}
 use Rattle.encoding.specs.Code.{code-is}
 use Rattle.stream.specs.Stream.{place, byteAt, bytesAt, length-bytes}
 use Rattle.stream.specs.Laws.{part-bytes, place-mono}
-use Rattle.records.specs.Records.{dataAt, sectionAt, symbolAt}
-use Rattle.records.specs.Fields.{section-fields}
+use Rattle.records.specs.View.{gapOf, sectionAt, symbolAt, dataIn}
+use Rattle.records.specs.Readable.{DataFits, Readable}
 use Rattle.plan.specs.Walk.{textFunctionOf}
-use Rattle.view.specs.View.{dataIn, sectionFrom, symbolFrom, sectionIn, symbolIn}
+use Rattle.view.specs.View.{sectionFrom, symbolFrom, sectionIn, symbolIn}
 use Rattle.owner.specs.Owner.{homeOf, home-by-record}
 use Rattle.catalogue.specs.Numbers.{homeAt, functionAt}
 use Rattle.catalogue.specs.Fits.{FunctionFits}
-use Rattle.pieces.specs.Inside.{DataPlaced}
 
-module _ (d : List ℕ) (gap : ℕ) (h : Head) where
+module _ (d t : List ℕ) (v : View) where
   abbrev pub codeAt : ℕ → List ℕ
-  codeAt j = functionCode (functionAt d gap h j)
+  codeAt j = functionCode (functionAt d t v j)
 
   -- where it begins in the data of its section
   unfoldable pub offsetIn : SectionRecord → SymbolRecord → ℕ
-  offsetIn s y = cond (isKind Kind.Program (kindOf (sectionFrom d gap h s))) (y .address) (y .address - s .address)
+  offsetIn s y = cond (isKind Kind.Program (kindOf (sectionFrom d t v s))) (y .address) (y .address - s .address)
 
   -- the first n numbers of a table are functions that fit their sections
   abbrev pub AllFit : List ℕ → ℕ → Type 0
-  AllFit order n = (k : ℕ) → k < n → FunctionFits d gap h (getD order k 0)
+  AllFit order n = (k : ℕ) → k < n → FunctionFits d t v (getD order k 0)
 
   -- the record of a function's section
   abbrev pub sectionOf : ℕ → SectionRecord
-  sectionOf j = sectionAt d gap (homeAt d gap h j)
+  sectionOf j = sectionAt d t v (homeAt d t v j)
 
   abbrev pub startOf : ℕ → ℕ
-  startOf j = offsetIn (sectionOf j) (symbolAt d gap h j)
+  startOf j = offsetIn (sectionOf j) (symbolAt d t v j)
 
-  function-is : (j : ℕ) → functionAt d gap h j ≡ functionOf (sectionIn d gap h (homeAt d gap h j)) (symbolIn d gap h j .address) (startOf j) (symbolIn d gap h j)
+  function-is : (j : ℕ) → functionAt d t v j ≡ functionOf (sectionIn d t v (homeAt d t v j)) (symbolIn d t v j .address) (startOf j) (symbolIn d t v j)
   unfolding offsetIn programFunction textFunctionOf sectionFrom symbolFrom
-  function-is j = go (isKind Kind.Program (kindOf (sectionIn d gap h (homeAt d gap h j))))
+  function-is j = go (isKind Kind.Program (kindOf (sectionIn d t v (homeAt d t v j))))
     where
       go : (b : Bool)
-          → cond b (programFunction (sectionIn d gap h (homeAt d gap h j)) (symbolIn d gap h j))
-          (textFunctionOf (byteOrder (h .order)) (tab (sectionIn d gap h) (h .sections)) (symbolIn d gap h) (h .symbols) (sectionIn d gap h (homeAt d gap h j)) j)
-          ≡ functionOf (sectionIn d gap h (homeAt d gap h j)) (symbolIn d gap h j .address)
-          (cond b (symbolAt d gap h j .address) (symbolAt d gap h j .address - sectionOf j .address)) (symbolIn d gap h j)
+          → cond b (programFunction (sectionIn d t v (homeAt d t v j)) (symbolIn d t v j))
+          (textFunctionOf (v .order) (tab (sectionIn d t v) (v .sections)) (symbolIn d t v) (v .symbols) (sectionIn d t v (homeAt d t v j)) j)
+          ≡ functionOf (sectionIn d t v (homeAt d t v j)) (symbolIn d t v j .address)
+          (cond b (symbolAt d t v j .address) (symbolAt d t v j .address - sectionOf j .address)) (symbolIn d t v j)
       go true = refl
       go false = refl
 
-  pub offset-is : (j : ℕ) → functionAt d gap h j .offset ≡ startOf j
+  pub offset-is : (j : ℕ) → functionAt d t v j .offset ≡ startOf j
   unfolding functionOf
   offset-is j = ap (λ (f : Function). f .offset) (function-is j)
 
   -- its bytes in the data
   abbrev pub bytesOf : ℕ → List ℕ
-  bytesOf j = part (dataIn d gap h (sectionOf j .bytes)) (startOf j) (symbolAt d gap h j .size)
+  bytesOf j = part (dataIn d v (sectionOf j .bytes)) (startOf j) (symbolAt d t v j .size)
 
-  pub code-read : (j : ℕ) → functionAt d gap h j .code ≡ instructions (symbolAt d gap h j .size / 8) (bytesOf j)
+  pub code-read : (j : ℕ) → functionAt d t v j .code ≡ instructions (symbolAt d t v j .size / 8) (bytesOf j)
   unfolding functionOf sectionFrom symbolFrom
   code-read j = ap (λ (f : Function). f .code) (function-is j)
 
 -- the code of function j lies in the data of section s, from offset o on
-pub record Found (d : List ℕ) (gap : ℕ) (h : Head) (j : ℕ) (s : SectionRecord) (o : ℕ) (y : SymbolRecord) : Type 0 where
+pub record Found (d t : List ℕ) (v : View) (j : ℕ) (s : SectionRecord) (o : ℕ) (y : SymbolRecord) : Type 0 where
   pub short : o + y .size < 2 ^ 32
-  pub code : bytesAt d gap (dataAt h + s .bytes .at + o) (y .size) ≡ codeAt d gap h j
-  pub long : length (codeAt d gap h j) ≡ y .size
-  pub placed : DataPlaced d gap h → place gap (dataAt h + s .bytes .at + o + y .size) ≤ length d
+  pub code : bytesAt d (gapOf v) (v .at .bytes + s .bytes .at + o) (y .size) ≡ codeAt d t v j
+  pub long : length (codeAt d t v j) ≡ y .size
+  pub placed : place (gapOf v) (v .at .bytes + s .bytes .at + o + y .size) ≤ length d
 
-module _ (d : List ℕ) (gap : ℕ) (small : (k : ℕ) → byteAt d gap k < 256) where
-  pub all-small : (p n : ℕ) → AllBytes (bytesAt d gap p n)
-  unfolding bytesAt
-  all-small p zero = tt
-  all-small p (suc n) = (small p, all-small (p + 1) n)
+all-small : (d : List ℕ) (gap : ℕ) → ((k : ℕ) → byteAt d gap k < 256) → (p n : ℕ) → AllBytes (bytesAt d gap p n)
+unfolding bytesAt
+all-small d gap small p zero = tt
+all-small d gap small p (suc n) = (small p, all-small d gap small (p + 1) n)
 
-  number-small : (p : ℕ) → little (bytesAt d gap p 4) < 2 ^ 32
-  unfolding bytesAt little
-  number-small p = omega (arith, small p, small (p + 1), small (p + 1 + 1), small (p + 1 + 1 + 1))
+-- a function that fits its section
+module _ (d t : List ℕ) (v : View) (j : ℕ) (fits : FunctionFits d t v j) where
+  inside : startOf d t v j + symbolAt d t v j .size ≤ sectionOf d t v j .bytes .length
+  inside = rw offset-is at (fits .within)
 
-  length-small : (i : ℕ) → sectionAt d gap i .bytes .length < 2 ^ 32
-  unfolding sectionAt
-  length-small i = rw (section-fields d gap (32 + 48 * i)) (number-small (32 + 48 * i + 32 + 4))
+  bytes-are : bytesOf d t v j ≡ bytesAt d (gapOf v) (v .at .bytes + sectionOf d t v j .bytes .at + startOf d t v j) (symbolAt d t v j .size)
+  bytes-are = part-bytes d (gapOf v) (v .at .bytes + sectionOf d t v j .bytes .at) (sectionOf d t v j .bytes .length) (startOf d t v j) (symbolAt d t v j .size) inside
 
-  -- a function that fits its section
-  module _ (h : Head) (j : ℕ) (fits : FunctionFits d gap h j) where
-    pub inside : startOf d gap h j + symbolAt d gap h j .size ≤ sectionOf d gap h j .bytes .length
-    inside = rw offset-is at (fits .within)
-
-    pub size-small : symbolAt d gap h j .size < 2 ^ 32
-    size-small = omega (arith, inside, length-small (homeAt d gap h j))
-
-    bytes-are : bytesOf d gap h j ≡ bytesAt d gap (dataAt h + sectionOf d gap h j .bytes .at + startOf d gap h j) (symbolAt d gap h j .size)
-    bytes-are = part-bytes d gap (dataAt h + sectionOf d gap h j .bytes .at) (sectionOf d gap h j .bytes .length) (startOf d gap h j) (symbolAt d gap h j .size) inside
-
+  module _ (small : (k : ℕ) → byteAt d (gapOf v) k < 256) where
     -- whole instructions
-    pub bytes-found : (length (bytesOf d gap h j) ≡ symbolAt d gap h j .size / 8 * 8) × AllBytes (bytesOf d gap h j)
+    pub bytes-found : (length (bytesOf d t v j) ≡ symbolAt d t v j .size / 8 * 8) × AllBytes (bytesOf d t v j)
     bytes-found =
         let w = fits .whole in
-        let l : length (bytesOf d gap h j) ≡ symbolAt d gap h j .size = ap length bytes-are ∙ length-bytes d gap (dataAt h + sectionOf d gap h j .bytes .at + startOf d gap h j) (symbolAt d gap h j .size) in
-        (omega (arith, l, w), rw bytes-are (all-small _ _))
+        let l : length (bytesOf d t v j) ≡ symbolAt d t v j .size =
+        ap length bytes-are ∙ length-bytes d (gapOf v) (v .at .bytes + sectionOf d t v j .bytes .at + startOf d t v j) (symbolAt d t v j .size)
+        in
+        (omega (arith, l, w), rw bytes-are (all-small d (gapOf v) small _ _))
 
-    pub code-bytes : codeAt d gap h j ≡ bytesAt d gap (dataAt h + sectionOf d gap h j .bytes .at + startOf d gap h j) (symbolAt d gap h j .size)
+    code-bytes : codeAt d t v j ≡ bytesAt d (gapOf v) (v .at .bytes + sectionOf d t v j .bytes .at + startOf d t v j) (symbolAt d t v j .size)
     code-bytes =
-        ap (each eight) (code-read d gap h j) ∙ code-is (symbolAt d gap h j .size / 8) (bytesOf d gap h j) (bytes-found .0) (bytes-found .1) ∙ bytes-are
+        ap (each eight) (code-read d t v j) ∙ code-is (symbolAt d t v j .size / 8) (bytesOf d t v j) (bytes-found .0) (bytes-found .1) ∙ bytes-are
 
-    pub code-length : length (codeAt d gap h j) ≡ symbolAt d gap h j .size
-    code-length = ap length code-bytes ∙ length-bytes d gap (dataAt h + sectionOf d gap h j .bytes .at + startOf d gap h j) (symbolAt d gap h j .size)
+    pub code-length : length (codeAt d t v j) ≡ symbolAt d t v j .size
+    code-length = ap length code-bytes ∙ length-bytes d (gapOf v) (v .at .bytes + sectionOf d t v j .bytes .at + startOf d t v j) (symbolAt d t v j .size)
 
-    is-found : Found d gap h j (sectionOf d gap h j) (startOf d gap h j) (symbolAt d gap h j)
-    is-found =
-        let b = sectionOf d gap h j .bytes in
-        let end : dataAt h + b .at + startOf d gap h j + symbolAt d gap h j .size ≤ dataAt h + b .at + b .length = omega (arith, inside) in
-        record {
-          short = omega (arith, inside, length-small (homeAt d gap h j));
-          code = sym code-bytes;
-          long = code-length;
-          placed = λ placed. le-trans (place-mono gap _ _ end) (placed (homeAt d gap h j) (fits .home));
-        }
+  -- of a view that is readable
+  module _ (r : Readable d t v) where
+    of-data : DataFits d v (sectionOf d t v j .bytes)
+    of-data = r .section-data (homeAt d t v j) (fits .home)
 
-    pub found : (y : SymbolRecord) (i : ℕ) (s : SectionRecord) (o : ℕ) → y ≡ symbolAt d gap h j → i ≡ homeOf d gap h y → s ≡ sectionAt d gap i → o ≡ offsetIn d gap h s y
-        → Found d gap h j s o y
-    found y i s o ey ei es eo =
-        let q : s ≡ sectionOf d gap h j = es ∙ ap (sectionAt d gap) (ei ∙ ap (homeOf d gap h) ey ∙ sym (home-by-record d gap h j)) in
-        rw (eo, q, ey) is-found
+    pub size-small : symbolAt d t v j .size < 2 ^ 32
+    size-small = omega (arith, inside, of-data .short)
+
+    module _ (small : (k : ℕ) → byteAt d (gapOf v) k < 256) where
+      is-found : Found d t v j (sectionOf d t v j) (startOf d t v j) (symbolAt d t v j)
+      is-found =
+          let b = sectionOf d t v j .bytes in
+          let end : v .at .bytes + b .at + startOf d t v j + symbolAt d t v j .size ≤ v .at .bytes + b .at + b .length = omega (arith, inside) in
+          record {
+            short = omega (arith, inside, of-data .short);
+            code = sym (code-bytes small);
+            long = code-length small;
+            placed = le-trans (place-mono (gapOf v) _ _ end) (of-data .placed);
+          }
+
+      pub found : (y : SymbolRecord) (i : ℕ) (s : SectionRecord) (o : ℕ) → y ≡ symbolAt d t v j → i ≡ homeOf d t v y → s ≡ sectionAt d t v i → o ≡ offsetIn d t v s y
+          → Found d t v j s o y
+      found y i s o ey ei es eo =
+          let q : s ≡ sectionOf d t v j = es ∙ ap (sectionAt d t v) (ei ∙ ap (homeOf d t v) ey ∙ sym (home-by-record d t v j)) in
+          rw (eo, q, ey) is-found

@@ -5,7 +5,7 @@ use mathlib.Core.List.{List, [], _∷_, _++_, map}
 use Prim.Native.Nat.{ℕ, zero, suc, _*_, _/_, _<_}
 use native.Mathlib.Omega.{arith}
 use lib.ListN.{length, take}
-use Rattle.model.specs.declared.Head.{Head}
+use Rattle.object_view.specs.declared.View.{View}
 use Rattle.model.specs.Bytes.{each, AllBytes}
 use Rattle.model.specs.Catalogue.{Function}
 use Rattle.model.specs.Instruction.{instructions}
@@ -13,7 +13,7 @@ use Rattle.model.specs.Lent.{functionCode}
 use Rattle.model.specs.Patching.{rewriteFunction}
 use Rattle.stream.specs.Stream.{byteAt}
 use Rattle.plan.specs.Numbers.{each-map}
-use Rattle.records.specs.Records.{symbolAt}
+use Rattle.records.specs.View.{gapOf, symbolAt}
 use Rattle.insn.specs.Sanitized.{sanitized, sanitized-code, sanitized-join, length-each-eight}
 use Rattle.catalogue.specs.Numbers.{functionAt}
 use Rattle.catalogue.specs.Fits.{FunctionFits}
@@ -44,20 +44,20 @@ rewritten-code (f ∷ fs) e =
     ∙ (λ k. rewritten-one f (e .0) k ++ rewritten-code fs (e .1) k)
 
 -- those of a table of numbers
-module _ (d : List ℕ) (gap : ℕ) (small : (k : ℕ) → byteAt d gap k < 256) (h : Head) where
-  encoded : (j : ℕ) → FunctionFits d gap h j → Encoded (functionAt d gap h j)
+module _ (d t : List ℕ) (v : View) (small : (k : ℕ) → byteAt d (gapOf v) k < 256) where
+  encoded : (j : ℕ) → FunctionFits d t v j → Encoded (functionAt d t v j)
   encoded j fits =
-      let b = bytes-found d gap small h j fits in
-      record { count = symbolAt d gap h j .size / 8; bytes = bytesOf d gap h j; read = code-read d gap h j; long = b .0; all = b .1 }
+      let b = bytes-found d t v j fits small in
+      record { count = symbolAt d t v j .size / 8; bytes = bytesOf d t v j; read = code-read d t v j; long = b .0; all = b .1 }
 
-  pub all-encoded : (order : List ℕ) (n : ℕ) → AllFit d gap h order n → AllEncoded (map (functionAt d gap h) (take n order))
+  pub all-encoded : (order : List ℕ) (n : ℕ) → AllFit d t v order n → AllEncoded (map (functionAt d t v) (take n order))
   all-encoded [] zero fit = tt
   all-encoded [] (suc n) fit = tt
   all-encoded (j ∷ order) zero fit = tt
   all-encoded (j ∷ order) (suc n) fit = (encoded j (fit 0 (omega arith)), all-encoded order n (λ k l. fit (suc k) (omega arith)))
 
-  pub rewritten-numbers : (order : List ℕ) (n : ℕ) → AllFit d gap h order n
-      → sanitized true (each (codeAt d gap h) (take n order)) ≡ each functionCode (map rewriteFunction (map (functionAt d gap h) (take n order)))
+  pub rewritten-numbers : (order : List ℕ) (n : ℕ) → AllFit d t v order n
+      → sanitized true (each (codeAt d t v) (take n order)) ≡ each functionCode (map rewriteFunction (map (functionAt d t v) (take n order)))
   rewritten-numbers order n fit =
-      ap (sanitized true) (sym (each-map functionCode (functionAt d gap h) (take n order)))
-      ∙ rewritten-code (map (functionAt d gap h) (take n order)) (all-encoded order n fit)
+      ap (sanitized true) (sym (each-map functionCode (functionAt d t v) (take n order)))
+      ∙ rewritten-code (map (functionAt d t v) (take n order)) (all-encoded order n fit)

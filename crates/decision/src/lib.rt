@@ -1,4 +1,4 @@
-// What a load decides before it fills the lent tables: why the deposit goes back, or that all of its catalogue fits.
+// What a load decides before it fills the lent tables: why the object is refused, or that all of its catalogue fits.
 ghost use mathlib.Core.Path.{_≡_};
 ghost use mathlib.Core.Option.{none};
 ghost use Prim.Native.Nat.{_≤_};
@@ -7,7 +7,7 @@ ghost use Rattle.model.specs.Lent.{tooSmall as tooSmallOf};
 ghost use Rattle.model.specs.PatchList.{patchesOf};
 ghost use Rattle.model.specs.Refusals.{objectRefusal, patchRefusal};
 ghost use Rattle.catalogue.specs.Numbers.{mapNumbers};
-ghost use Rattle.accepted.specs.Readable.{Readable};
+ghost use Rattle.records.specs.Readable.{Readable};
 ghost use Rattle.view.specs.Checked.{checkedOf};
 ghost use Rattle.view.specs.View.{objectIn};
 ghost use Rattle.bytes.specs.Parts.{catalogue};
@@ -18,10 +18,10 @@ ghost use Rattle.decision.specs.Room.{fitsBy};
 use bearers::by_name;
 use bytes::Places;
 use map_places::maps_by_section;
-use model::Head;
 use model::Refusal;
 use model::SectionIndex;
 use model::SymbolIndex;
+use object_view::View;
 use patch_checks::patch_refusal;
 use relocation_rows::put_relocation_rows;
 use stream::size;
@@ -75,8 +75,8 @@ fn fits(room: Room, n: Counts, relocations: usize, bytes: usize) -> bool
 // Numbers 18 to 23. Only where there are entries are the symbols ordered by name, and the maps placed by section.
 fn check_patches(
     d: &[u8],
-    gap: usize,
-    h: Head,
+    t: &[u32],
+    v: View,
     entries: &[u64],
     patches: &[u8],
     maps: &[u32],
@@ -85,15 +85,15 @@ fn check_patches(
     tmp: &mut [u32],
     by: &mut [u32],
 ) -> Checked
-    requires { ⌜ Readable (now d) gap h × (objectRefusal (objectIn (now d) gap h) ≡ none) × (n ≤ length (now maps)) × (n ≤ 69632) × (take n (now maps) ≡ mapNumbers (now d) gap h) × (length (now order) ≡ h .symbols) × (length (now tmp) ≡ h .symbols) × (h .sections ≤ length (now by)) ⌝ }
-    ensures { λ r. ⌜ (r ≡ checkedOf (patchRefusal (objectIn (now (d .entry)) gap h) (catalogue (now (d .entry)) gap h .maps) 1 (patchesOf (now (entries .entry)) (now (patches .entry))))) × Ready (now (d .entry)) gap h (now (entries .entry)) (now (maps .entry)) n (now (order .exit)) (now (by .exit)) ⌝ }
+    requires { ⌜ Readable (now d) (now t) v × (objectRefusal (objectIn (now d) (now t) v) ≡ none) × (n ≤ length (now maps)) × (n ≤ 69632) × (take n (now maps) ≡ mapNumbers (now d) (now t) v) × (length (now order) ≡ v .symbols) × (length (now tmp) ≡ v .symbols) × (v .sections ≤ length (now by)) ⌝ }
+    ensures { λ r. ⌜ (r ≡ checkedOf (patchRefusal (objectIn (now (d .entry)) (now (t .entry)) v) (catalogue (now (d .entry)) (now (t .entry)) v .maps) 1 (patchesOf (now (entries .entry)) (now (patches .entry))))) × Ready (now (d .entry)) (now (t .entry)) v (now (entries .entry)) (now (maps .entry)) n (now (order .exit)) (now (by .exit)) ⌝ }
 {
     if entries.len() == 0 {
         return Checked::Fine;
     }
-    by_name(d, gap, h, order, tmp);
-    maps_by_section(d, gap, h, maps, n, by);
-    patch_refusal(d, gap, h, entries, patches, order, maps, n, by)
+    by_name(d, t, v, order, tmp);
+    maps_by_section(d, t, v, maps, n, by);
+    patch_refusal(d, t, v, entries, patches, order, maps, n, by)
 }
 
 fn too_small() -> Refusal
@@ -110,8 +110,8 @@ fn too_small() -> Refusal
 // Numbers 18 to 24 of an object that is not refused; n and relocations are the counts of its tables.
 fn check_room(
     d: &[u8],
-    gap: usize,
-    h: Head,
+    t: &[u32],
+    v: View,
     entries: &[u64],
     patches: &[u8],
     room: Room,
@@ -125,14 +125,14 @@ fn check_room(
     tmp: &mut [u32],
     by: &mut [u32],
 ) -> Decision
-    requires { ⌜ Readable (now d) gap h × (objectRefusal (objectIn (now d) gap h) ≡ none) × Held (now d) gap h n (now sections) (now programs) (now functions) (now maps) × (relocations ≡ length (catalogue (now d) gap h .relocations)) × (h .symbols ≤ length (now order)) × (h .symbols ≤ length (now tmp)) × (h .sections ≤ length (now by)) ⌝ }
-    ensures { λ r. ⌜ Decides (now (d .entry)) gap h (now (entries .entry)) (now (patches .entry)) room r (now (sections .entry)) (now (programs .entry)) (now (functions .entry)) (now (maps .entry)) (now (order .exit)) (now (by .exit)) ⌝ }
+    requires { ⌜ Readable (now d) (now t) v × (objectRefusal (objectIn (now d) (now t) v) ≡ none) × Held (now d) (now t) v n (now sections) (now programs) (now functions) (now maps) × (relocations ≡ length (catalogue (now d) (now t) v .relocations)) × (v .symbols ≤ length (now order)) × (v .symbols ≤ length (now tmp)) × (v .sections ≤ length (now by)) ⌝ }
+    ensures { λ r. ⌜ Decides (now (d .entry)) (now (t .entry)) v (now (entries .entry)) (now (patches .entry)) room r (now (sections .entry)) (now (programs .entry)) (now (functions .entry)) (now (maps .entry)) (now (order .exit)) (now (by .exit)) ⌝ }
 {
-    let y = size(h.symbols);
+    let y = size(v.symbols);
     let checked = check_patches(
         d,
-        gap,
-        h,
+        t,
+        v,
         entries,
         patches,
         maps,
@@ -144,7 +144,7 @@ fn check_room(
     if let Checked::Refused(r) = checked {
         return Decision::Refused(r);
     }
-    let places = bytes::layout(d, gap, h, n, sections, programs, functions, maps);
+    let places = bytes::layout(d, t, v, n, sections, programs, functions, maps);
     if !fits(room, n, relocations, places.end) {
         return Decision::Refused(too_small());
     }
@@ -158,8 +158,8 @@ fn check_room(
 // The same with the relocations counted, whose rows are stored while they are.
 fn check_numbers(
     d: &[u8],
-    gap: usize,
-    h: Head,
+    t: &[u32],
+    v: View,
     entries: &[u64],
     patches: &[u8],
     room: Room,
@@ -173,14 +173,14 @@ fn check_numbers(
     by: &mut [u32],
     relocations: &mut [u64],
 ) -> Decision
-    requires { ⌜ Readable (now d) gap h × (objectRefusal (objectIn (now d) gap h) ≡ none) × Held (now d) gap h n (now sections) (now programs) (now functions) (now maps) × (h .symbols ≤ length (now order)) × (h .relocations ≤ length (now order)) × (h .symbols ≤ length (now tmp)) × (h .relocations ≤ length (now tmp)) × (h .sections ≤ length (now by)) × (room .relocations ≡ length (now relocations)) ⌝ }
-    ensures { λ r. ⌜ Decides (now (d .entry)) gap h (now (entries .entry)) (now (patches .entry)) room r (now (sections .entry)) (now (programs .entry)) (now (functions .entry)) (now (maps .entry)) (now (order .exit)) (now (by .exit)) × Relocated (now (d .entry)) gap h (now (entries .entry)) (now (patches .entry)) room r (now (relocations .entry)) (now (relocations .exit)) ⌝ }
+    requires { ⌜ Readable (now d) (now t) v × (objectRefusal (objectIn (now d) (now t) v) ≡ none) × Held (now d) (now t) v n (now sections) (now programs) (now functions) (now maps) × (v .symbols ≤ length (now order)) × (v .relocations ≤ length (now order)) × (v .symbols ≤ length (now tmp)) × (v .relocations ≤ length (now tmp)) × (v .sections ≤ length (now by)) × (room .relocations ≡ length (now relocations)) ⌝ }
+    ensures { λ r. ⌜ Decides (now (d .entry)) (now (t .entry)) v (now (entries .entry)) (now (patches .entry)) room r (now (sections .entry)) (now (programs .entry)) (now (functions .entry)) (now (maps .entry)) (now (order .exit)) (now (by .exit)) × Relocated (now (d .entry)) (now (t .entry)) v (now (entries .entry)) (now (patches .entry)) room r (now (relocations .entry)) (now (relocations .exit)) ⌝ }
 {
-    let count = put_relocation_rows(d, gap, h, order, tmp, relocations);
+    let count = put_relocation_rows(d, t, v, order, tmp, relocations);
     check_room(
         d,
-        gap,
-        h,
+        t,
+        v,
         entries,
         patches,
         room,
@@ -199,8 +199,8 @@ fn check_numbers(
 // Numbers 4 to 24.
 pub fn decide(
     d: &[u8],
-    gap: usize,
-    h: Head,
+    t: &[u32],
+    v: View,
     entries: &[u64],
     patches: &[u8],
     room: Room,
@@ -213,16 +213,16 @@ pub fn decide(
     by: &mut [u32],
     relocations: &mut [u64],
 ) -> Decision
-    requires { ⌜ Readable (now d) gap h × Scratch h (now sections) (now programs) (now functions) (now maps) (now tmp) (now order) (now by) × (room .relocations ≡ length (now relocations)) ⌝ }
-    ensures { λ r. ⌜ Decides (now (d .entry)) gap h (now (entries .entry)) (now (patches .entry)) room r (now (sections .exit)) (now (programs .exit)) (now (functions .exit)) (now (maps .exit)) (now (order .exit)) (now (by .exit)) × Relocated (now (d .entry)) gap h (now (entries .entry)) (now (patches .entry)) room r (now (relocations .entry)) (now (relocations .exit)) ⌝ }
+    requires { ⌜ Readable (now d) (now t) v × Scratch v (now sections) (now programs) (now functions) (now maps) (now tmp) (now order) (now by) × (room .relocations ≡ length (now relocations)) ⌝ }
+    ensures { λ r. ⌜ Decides (now (d .entry)) (now (t .entry)) v (now (entries .entry)) (now (patches .entry)) room r (now (sections .exit)) (now (programs .exit)) (now (functions .exit)) (now (maps .exit)) (now (order .exit)) (now (by .exit)) × Relocated (now (d .entry)) (now (t .entry)) v (now (entries .entry)) (now (patches .entry)) room r (now (relocations .entry)) (now (relocations .exit)) ⌝ }
 {
-    match tables::parse(d, gap, h, sections, programs, functions, maps, tmp, order) {
+    match tables::parse(d, t, v, sections, programs, functions, maps, tmp, order) {
         Tables::Refused(r) => Decision::Refused(r),
         Tables::Numbers(n) => {
             check_numbers(
                 d,
-                gap,
-                h,
+                t,
+                v,
                 entries,
                 patches,
                 room,

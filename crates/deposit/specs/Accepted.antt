@@ -23,11 +23,13 @@ use Rattle.model.specs.Deposit.{mostBytes, frameOk, streamOf, headOf, Stream, p
 use Rattle.stream.specs.Stream.{place, bytesAt}
 use Rattle.stream.specs.Laws.{part-bytes, place-mono}
 use Rattle.stream.specs.Framed.{stream-inside}
-use Rattle.records.specs.Records.{namesAt, dataAt, headAt, sectionAt, symbolAt, relocationAt}
+use Rattle.records.specs.Records.{namesAt, dataAt, headAt, depositSection, depositSymbol, depositRelocation}
+use Rattle.object_view.specs.declared.View.{View}
+use Rattle.records.specs.View.{depositView}
 use Rattle.rules.specs.Parts.{head-stream, parts-sections, parts-symbols, parts-relocations, parts-bytes}
 use Rattle.rules.specs.Rules.{ruled, nameByte, nameAt, nameOkAt, sectionOkAt, symbolOkAt, sectionsOk, symbolsOk, relocationsOk, restOk, recordsOkAt, someBtf, ruled-all, name-cut}
 use Rattle.rules.specs.declared.Checked.{Checked}
-use Rattle.deposit.specs.declared.Opened.{Opened}
+use Rattle.object_view.specs.declared.Opened.{Opened}
 use Rattle.deposit.specs.Open.{openedOf, streamLength, streamOkAt, checkedStream, Framed, framed, btf, answerOf, opened-1, opened-checked}
 
 -- ---- the object's parts, by their places
@@ -37,7 +39,7 @@ module _ (d : List ℕ) (h : Head) where
   dataOf e = bytesAt d 4 (dataAt h + e .at) (e .length)
 
   unfoldable pub relocsIn : Extent → List Reloc
-  relocsIn e = tab (λ k. relocOf (relocationAt d 4 h (e .at + k))) (e .length)
+  relocsIn e = tab (λ k. relocOf (depositRelocation d h (e .at + k))) (e .length)
 
   unfoldable pub sectionIn : SectionRecord → Section
   sectionIn r =
@@ -86,7 +88,7 @@ module _ (d : List ℕ) (h : Head) where
   -- ---- all of it
 
   pub record Accepted : Type 0 where
-    pub head : h ≡ headAt d 4
+    pub head : h ≡ headAt d
     pub frame : Framed d
     -- the stream lies in the blocks, and the deposit's indexes reach it
     pub inside : endOf h ≤ streamLength d
@@ -95,18 +97,18 @@ module _ (d : List ℕ) (h : Head) where
     pub few-sections : h .sections ≤ 4096
     pub few-symbols : h .symbols ≤ 65536
     pub few-relocations : h .relocations ≤ 65536
-    pub section-rules : (i : ℕ) → i < h .sections → SectionRules (sectionAt d 4 i)
-    pub symbol-rules : (i : ℕ) → i < h .symbols → SymbolRules (symbolAt d 4 h i)
-    pub relocation-rules : (i : ℕ) → i < h .relocations → 0 < relocationAt d 4 h i .symbol .0
+    pub section-rules : (i : ℕ) → i < h .sections → SectionRules (depositSection d i)
+    pub symbol-rules : (i : ℕ) → i < h .symbols → SymbolRules (depositSymbol d h i)
+    pub relocation-rules : (i : ℕ) → i < h .relocations → 0 < depositRelocation d h i .symbol .0
     -- indexes are at least 1 and rise strictly
-    pub section-first : (i : ℕ) → i < h .sections → 0 < sectionAt d 4 i .index .0
-    pub sections-rise : (i j : ℕ) → i < j → j < h .sections → sectionAt d 4 i .index .0 < sectionAt d 4 j .index .0
-    pub symbol-first : (i : ℕ) → i < h .symbols → 0 < symbolAt d 4 h i .index .0
-    pub symbols-rise : (i j : ℕ) → i < j → j < h .symbols → symbolAt d 4 h i .index .0 < symbolAt d 4 h j .index .0
+    pub section-first : (i : ℕ) → i < h .sections → 0 < depositSection d i .index .0
+    pub sections-rise : (i j : ℕ) → i < j → j < h .sections → depositSection d i .index .0 < depositSection d j .index .0
+    pub symbol-first : (i : ℕ) → i < h .symbols → 0 < depositSymbol d h i .index .0
+    pub symbols-rise : (i j : ℕ) → i < j → j < h .symbols → depositSymbol d h i .index .0 < depositSymbol d h j .index .0
     -- the object
     pub object-order : objectOf d .order ≡ byteOrder (h .order)
-    pub object-sections : objectOf d .sections ≡ tab (λ i. sectionIn (sectionAt d 4 i)) (h .sections)
-    pub object-symbols : objectOf d .symbols ≡ tab (λ i. symbolIn (symbolAt d 4 h i)) (h .symbols)
+    pub object-sections : objectOf d .sections ≡ tab (λ i. sectionIn (depositSection d i)) (h .sections)
+    pub object-symbols : objectOf d .symbols ≡ tab (λ i. symbolIn (depositSymbol d h i)) (h .symbols)
     pub no-btf : hasBtf (objectOf d) ≡ false
     pub no-refusal : depositRefusal d ≡ none
 
@@ -215,8 +217,8 @@ module _ (d : List ℕ) (h : Head) where
     unfolding relocsIn
     relocs-cut e l =
         ap (λ (rs : List RelocationRecord). map relocOf (take (e .length) (drop (e .at) rs))) (parts-relocations d whole h inside)
-        ∙ ap (map relocOf) (part-tab (relocationAt d 4 h) (h .relocations) (e .at) (e .length) l)
-        ∙ map-tab (λ k. relocationAt d 4 h (e .at + k)) (e .length) relocOf
+        ∙ ap (map relocOf) (part-tab (depositRelocation d h) (h .relocations) (e .at) (e .length) l)
+        ∙ map-tab (λ k. depositRelocation d h (e .at + k)) (e .length) relocOf
 
     section-states : (r : SectionRecord) → SectionRules d h r → sectionOf parts r ≡ sectionIn d h r
     unfolding sectionOf sectionIn
@@ -244,40 +246,40 @@ module _ (d : List ℕ) (h : Head) where
           definition = eqb (r .definition) 1;
         }
 
-    stated-sections : ((i : ℕ) → i < h .sections → SectionRules d h (sectionAt d 4 i))
-        → statedBy parts .sections ≡ tab (λ i. sectionIn d h (sectionAt d 4 i)) (h .sections)
+    stated-sections : ((i : ℕ) → i < h .sections → SectionRules d h (depositSection d i))
+        → statedBy parts .sections ≡ tab (λ i. sectionIn d h (depositSection d i)) (h .sections)
     unfolding statedBy
     stated-sections s =
         ap (map (sectionOf parts)) (parts-sections d whole h inside)
-        ∙ map-tab (sectionAt d 4) (h .sections) (sectionOf parts)
-        ∙ tab-ext (λ i. sectionOf parts (sectionAt d 4 i)) (λ i. sectionIn d h (sectionAt d 4 i)) (h .sections) (λ i l. section-states (sectionAt d 4 i) (s i l))
+        ∙ map-tab (depositSection d) (h .sections) (sectionOf parts)
+        ∙ tab-ext (λ i. sectionOf parts (depositSection d i)) (λ i. sectionIn d h (depositSection d i)) (h .sections) (λ i l. section-states (depositSection d i) (s i l))
 
-    stated-symbols : ((i : ℕ) → i < h .symbols → SymbolRules d h (symbolAt d 4 h i))
-        → statedBy parts .symbols ≡ tab (λ i. symbolIn d h (symbolAt d 4 h i)) (h .symbols)
+    stated-symbols : ((i : ℕ) → i < h .symbols → SymbolRules d h (depositSymbol d h i))
+        → statedBy parts .symbols ≡ tab (λ i. symbolIn d h (depositSymbol d h i)) (h .symbols)
     unfolding statedBy
     stated-symbols s =
         ap (map (symbolOf parts)) (parts-symbols d whole h inside)
-        ∙ map-tab (symbolAt d 4 h) (h .symbols) (symbolOf parts)
-        ∙ tab-ext (λ i. symbolOf parts (symbolAt d 4 h i)) (λ i. symbolIn d h (symbolAt d 4 h i)) (h .symbols) (λ i l. symbol-states (symbolAt d 4 h i) (s i l))
+        ∙ map-tab (depositSymbol d h) (h .symbols) (symbolOf parts)
+        ∙ tab-ext (λ i. symbolOf parts (depositSymbol d h i)) (λ i. symbolIn d h (depositSymbol d h i)) (h .symbols) (λ i l. symbol-states (depositSymbol d h i) (s i l))
 
   stated-order : statedBy (partsFrom h (streamOf d)) .order ≡ byteOrder (h .order)
   unfolding statedBy partsFrom
   stated-order = refl
 
-  object-is : Framed d → headAt d 4 ≡ h → objectOf d ≡ statedBy (partsFrom h (streamOf d))
+  object-is : Framed d → headAt d ≡ h → objectOf d ≡ statedBy (partsFrom h (streamOf d))
   unfolding objectOf partsOf
   object-is f e = ap (λ (k : Head). statedBy (partsFrom k (streamOf d))) (head-stream d (f .whole) (f .some) ∙ e)
 
-  no-btf-of : Framed d → headAt d 4 ≡ h → streamOkAt d h ≡ true → someBtf d h ≡ false → hasBtf (objectOf d) ≡ false
+  no-btf-of : Framed d → headAt d ≡ h → streamOkAt d h ≡ true → someBtf d h ≡ false → hasBtf (objectOf d) ≡ false
   no-btf-of f e t b = btf d f (rw e t) ∙ rw e b
 
 -- ---- a deposit that is opened
 
-passed : (d : List ℕ) (h : Head) → openedOf d ≡ Opened.Head h → depositRefusal d ≡ none
+passed : (d : List ℕ) (v : View) → openedOf d ≡ Opened.View v → depositRefusal d ≡ none
 unfolding openedOf
-passed d h e = go (depositRefusal d) refl e
+passed d v e = go (depositRefusal d) refl e
   where
-    go : (o : Option Refusal) → depositRefusal d ≡ o → maybe o (Opened.Head (headOf (streamOf d))) (λ r. Opened.Refused r) ≡ Opened.Head h → depositRefusal d ≡ none
+    go : (o : Option Refusal) → depositRefusal d ≡ o → maybe o (Opened.View (depositView (headOf (streamOf d)))) (λ r. Opened.Refused r) ≡ Opened.View v → depositRefusal d ≡ none
     go none p q = p
     go (some r) p q = let z : _≡_ {A = ℕ} 0 1 = cc in absurd (omega arith)
 
@@ -286,7 +288,7 @@ pub refused-by : (d : List ℕ) (r : Refusal) → openedOf d ≡ Opened.Refused 
 unfolding openedOf
 refused-by d r e = go (depositRefusal d) refl e
   where
-    go : (o : Option Refusal) → depositRefusal d ≡ o → maybe o (Opened.Head (headOf (streamOf d))) (λ r. Opened.Refused r) ≡ Opened.Refused r → depositRefusal d ≡ some r
+    go : (o : Option Refusal) → depositRefusal d ≡ o → maybe o (Opened.View (depositView (headOf (streamOf d)))) (λ r. Opened.Refused r) ≡ Opened.Refused r → depositRefusal d ≡ some r
     go none p q = let z : _≡_ {A = ℕ} 0 1 = cc in absurd (omega arith)
     go (some s) p q = let f : Opened.Refused s ≡ Opened.Refused r = q in let g : s ≡ r = cc in p ∙ ap some g
 
@@ -295,7 +297,7 @@ fine true true e = let z : _≡_ {A = ℕ} 0 1 = cc in absurd (omega arith)
 fine true false e = (refl, refl)
 fine false b e = let z : _≡_ {A = ℕ} 0 1 = cc in absurd (omega arith)
 
-accepted-by : (d : List ℕ) (h : Head) → Framed d → headAt d 4 ≡ h → streamOkAt d h ≡ true → someBtf d h ≡ false → depositRefusal d ≡ none → Accepted d h
+accepted-by : (d : List ℕ) (h : Head) → Framed d → headAt d ≡ h → streamOkAt d h ≡ true → someBtf d h ≡ false → depositRefusal d ≡ none → Accepted d h
 unfolding streamOkAt recordsOkAt headOk sectionsOk symbolsOk relocationsOk
 accepted-by d h f e t b n =
     let s₀ = both (headOk h) (leb (endOf h) (streamLength d) && (ltb (streamLength d) (endOf h + 508) && recordsOkAt d h)) t in
@@ -310,10 +312,10 @@ accepted-by d h f e t b n =
     let k₄ = both (leb (h .relocations) 65536) (eqb (h .reserved) 0) (k₃ .1) in
     let inside : endOf h ≤ streamLength d = leb-true _ _ (s₁ .0) in
     let object : objectOf d ≡ statedBy (partsFrom h (streamOf d)) = object-is d h f e in
-    let secs : (i : ℕ) → i < h .sections → SectionRules d h (sectionAt d 4 i) =
-    λ i l. section-rules-of d h (sectionAt d 4 i) (all-at (sectionAt d 4) (h .sections) (sectionOkAt d h) (ruled-all (λ r. r .index .0) (sectionOkAt d h) 0 _ (s₅ .1)) i l) in
-    let syms : (i : ℕ) → i < h .symbols → SymbolRules d h (symbolAt d 4 h i) =
-    λ i l. symbol-rules-of d h (symbolAt d 4 h i) (all-at (symbolAt d 4 h) (h .symbols) (symbolOkAt d h) (ruled-all (λ r. r .index .0) (symbolOkAt d h) 0 _ (s₄ .0)) i l) in
+    let secs : (i : ℕ) → i < h .sections → SectionRules d h (depositSection d i) =
+    λ i l. section-rules-of d h (depositSection d i) (all-at (depositSection d) (h .sections) (sectionOkAt d h) (ruled-all (λ r. r .index .0) (sectionOkAt d h) 0 _ (s₅ .1)) i l) in
+    let syms : (i : ℕ) → i < h .symbols → SymbolRules d h (depositSymbol d h i) =
+    λ i l. symbol-rules-of d h (depositSymbol d h i) (all-at (depositSymbol d h) (h .symbols) (symbolOkAt d h) (ruled-all (λ r. r .index .0) (symbolOkAt d h) 0 _ (s₄ .0)) i l) in
     record {
       head = sym e;
       frame = f;
@@ -325,11 +327,11 @@ accepted-by d h f e t b n =
       few-relocations = leb-true _ _ (k₄ .0);
       section-rules = secs;
       symbol-rules = syms;
-      relocation-rules = λ i l. relocation-rule-of d h (relocationAt d 4 h i) (all-at (relocationAt d 4 h) (h .relocations) relocationOk (s₅ .0) i l);
-      section-first = above-at (sectionAt d 4) (h .sections) (λ r. r .index .0) (sectionOkAt d h) 0 (s₅ .1);
-      sections-rise = rise-at (sectionAt d 4) (h .sections) (λ r. r .index .0) (sectionOkAt d h) 0 (s₅ .1);
-      symbol-first = above-at (symbolAt d 4 h) (h .symbols) (λ r. r .index .0) (symbolOkAt d h) 0 (s₄ .0);
-      symbols-rise = rise-at (symbolAt d 4 h) (h .symbols) (λ r. r .index .0) (symbolOkAt d h) 0 (s₄ .0);
+      relocation-rules = λ i l. relocation-rule-of d h (depositRelocation d h i) (all-at (depositRelocation d h) (h .relocations) relocationOk (s₅ .0) i l);
+      section-first = above-at (depositSection d) (h .sections) (λ r. r .index .0) (sectionOkAt d h) 0 (s₅ .1);
+      sections-rise = rise-at (depositSection d) (h .sections) (λ r. r .index .0) (sectionOkAt d h) 0 (s₅ .1);
+      symbol-first = above-at (depositSymbol d h) (h .symbols) (λ r. r .index .0) (symbolOkAt d h) 0 (s₄ .0);
+      symbols-rise = rise-at (depositSymbol d h) (h .symbols) (λ r. r .index .0) (symbolOkAt d h) 0 (s₄ .0);
       object-order = ap (λ (o : Object). o .order) object ∙ stated-order d h;
       object-sections = ap (λ (o : Object). o .sections) object ∙ stated-sections d h (f .whole) inside secs;
       object-symbols = ap (λ (o : Object). o .symbols) object ∙ stated-symbols d h (f .whole) inside syms;
@@ -337,40 +339,42 @@ accepted-by d h f e t b n =
       no-refusal = n;
     }
 
-pub accepted : (d : List ℕ) (h : Head) → openedOf d ≡ Opened.Head h → Accepted d h
+-- its view is that of its head
+pub accepted : (d : List ℕ) (v : View) → openedOf d ≡ Opened.View v → (v ≡ depositView (headAt d)) × Accepted d (headAt d)
 unfolding checkedStream
-accepted d h e = go (frameOk d) refl
+accepted d v e = go (frameOk d) refl
   where
-    opened : frameOk d ≡ true → (c : Checked) → checkedStream d (headAt d 4) ≡ c → answerOf c (headAt d 4) ≡ Opened.Head h → Accepted d h
+    opened : frameOk d ≡ true → (c : Checked) → checkedStream d (headAt d) ≡ c → answerOf c (headAt d) ≡ Opened.View v
+        → (v ≡ depositView (headAt d)) × Accepted d (headAt d)
     opened f Checked.Broken p q = let z : _≡_ {A = ℕ} 0 1 = cc in absurd (omega arith)
     opened f Checked.Btf p q = let z : _≡_ {A = ℕ} 0 1 = cc in absurd (omega arith)
     opened f Checked.Fine p q =
-        let r : Opened.Head (headAt d 4) ≡ Opened.Head h = q in
-        let g : headAt d 4 ≡ h = cc in
-        let s = fine (streamOkAt d (headAt d 4)) (someBtf d (headAt d 4)) p in
-        accepted-by d h (framed d f) g (rw g at (s .0)) (rw g at (s .1)) (passed d h e)
+        let r : Opened.View (depositView (headAt d)) ≡ Opened.View v = q in
+        let g : v ≡ depositView (headAt d) = cc in
+        let s = fine (streamOkAt d (headAt d)) (someBtf d (headAt d)) p in
+        (g, accepted-by d (headAt d) (framed d f) refl (s .0) (s .1) (passed d v e))
 
-    go : (b : Bool) → frameOk d ≡ b → Accepted d h
-    go true f = opened f (checkedStream d (headAt d 4)) refl (sym (opened-checked d f) ∙ e)
+    go : (b : Bool) → frameOk d ≡ b → (v ≡ depositView (headAt d)) × Accepted d (headAt d)
+    go true f = opened f (checkedStream d (headAt d)) refl (sym (opened-checked d f) ∙ e)
     go false f = let p = sym (opened-1 d f) ∙ e in let z : _≡_ {A = ℕ} 0 1 = cc p in absurd (omega arith)
 
 -- ---- to cite
 
 module _ (d : List ℕ) (h : Head) (a : Accepted d h) where
   pub count-sections : length (objectOf d .sections) ≡ h .sections
-  count-sections = ap length (a .object-sections) ∙ length-tab (λ i. sectionIn d h (sectionAt d 4 i)) (h .sections)
+  count-sections = ap length (a .object-sections) ∙ length-tab (λ i. sectionIn d h (depositSection d i)) (h .sections)
 
   pub count-symbols : length (objectOf d .symbols) ≡ h .symbols
-  count-symbols = ap length (a .object-symbols) ∙ length-tab (λ i. symbolIn d h (symbolAt d 4 h i)) (h .symbols)
+  count-symbols = ap length (a .object-symbols) ∙ length-tab (λ i. symbolIn d h (depositSymbol d h i)) (h .symbols)
 
   -- the object's section and symbol i
-  pub object-section : (i : ℕ) (x : Section) → i < h .sections → getD (objectOf d .sections) i x ≡ sectionIn d h (sectionAt d 4 i)
+  pub object-section : (i : ℕ) (x : Section) → i < h .sections → getD (objectOf d .sections) i x ≡ sectionIn d h (depositSection d i)
   object-section i x l =
-      ap (λ (l : List Section). getD l i x) (a .object-sections) ∙ getD-tab (λ i. sectionIn d h (sectionAt d 4 i)) (h .sections) i x l
+      ap (λ (l : List Section). getD l i x) (a .object-sections) ∙ getD-tab (λ i. sectionIn d h (depositSection d i)) (h .sections) i x l
 
-  pub object-symbol : (i : ℕ) (x : Symbol) → i < h .symbols → getD (objectOf d .symbols) i x ≡ symbolIn d h (symbolAt d 4 h i)
+  pub object-symbol : (i : ℕ) (x : Symbol) → i < h .symbols → getD (objectOf d .symbols) i x ≡ symbolIn d h (depositSymbol d h i)
   object-symbol i x l =
-      ap (λ (l : List Symbol). getD l i x) (a .object-symbols) ∙ getD-tab (λ i. symbolIn d h (symbolAt d 4 h i)) (h .symbols) i x l
+      ap (λ (l : List Symbol). getD l i x) (a .object-symbols) ∙ getD-tab (λ i. symbolIn d h (depositSymbol d h i)) (h .symbols) i x l
 
   -- names and data lie inside the deposit
   pub name-placed : (e : Extent) → NameRules d h e → place 4 (namesAt h + e .at + e .length) ≤ length d

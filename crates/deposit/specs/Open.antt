@@ -14,18 +14,19 @@ use Rattle.model.specs.Refusals.{noSection, noSymbol}
 use Rattle.model.specs.Deposit.{mostBytes, checksOk, frameOk, streamOf, headOf, partsFrom, partsOf, endOf, headOk, lengthOk, recordsOk, streamRules, streamOk, objectOf, hasBtf, ofDeposit, depositRefusal}
 use Rattle.stream.specs.Framed.{length-stream}
 use Rattle.records.specs.Records.{headAt}
+use Rattle.records.specs.View.{depositView}
 use Rattle.rules.specs.Parts.{head-stream}
 use Rattle.rules.specs.Rules.{sectionsOk, symbolsOk, relocationsOk, restOk, recordsOkAt, someBtf, records-ok, btf-is}
 use Rattle.rules.specs.declared.Checked.{Checked}
-use Rattle.deposit.specs.declared.Opened.{Opened}
+use Rattle.object_view.specs.declared.Opened.{Opened}
 
 -- '1 to 3 name 0 0 0.'
 abbrev pub goesBack : ℕ → Refusal
 goesBack n = record { number = n; section = noSection; symbol = noSymbol; entry = 0 }
 
--- the head of a deposit that passes, or why it goes back
+-- the view of a deposit that passes, or why it goes back
 unfoldable pub openedOf : List ℕ → Opened
-openedOf d = maybe (depositRefusal d) (Opened.Head (headOf (streamOf d))) (λ r. Opened.Refused r)
+openedOf d = maybe (depositRefusal d) (Opened.View (depositView (headOf (streamOf d)))) (λ r. Opened.Refused r)
 
 -- ---- by places
 
@@ -62,14 +63,14 @@ framed d e =
 
 module _ (d : List ℕ) (f : Framed d) where
   -- number 2
-  pub stream-ok : streamOk d ≡ streamOkAt d (headAt d 4)
+  pub stream-ok : streamOk d ≡ streamOkAt d (headAt d)
   unfolding streamOk streamRules partsOf streamOkAt lengthOk
   stream-ok =
       rw (head-stream d (f .whole) (f .some), length-stream d (f .whole))
       (ap (λ (b : Bool). headOk h && b) (and-assoc (leb (endOf h) (streamLength d)) (ltb (streamLength d) (endOf h + 508)) (recordsOk (partsFrom h (streamOf d))) ∙ go (leb (endOf h) (streamLength d)) refl))
     where
       h : Head
-      h = headAt d 4
+      h = headAt d
 
       go : (b : Bool) → leb (endOf h) (streamLength d) ≡ b
           → (b && (ltb (streamLength d) (endOf h + 508) && recordsOk (partsFrom h (streamOf d)))) ≡ (b && (ltb (streamLength d) (endOf h + 508) && recordsOkAt d h))
@@ -77,10 +78,10 @@ module _ (d : List ℕ) (f : Framed d) where
       go false t = refl
 
   -- number 3
-  pub btf : streamOkAt d (headAt d 4) ≡ true → hasBtf (objectOf d) ≡ someBtf d (headAt d 4)
+  pub btf : streamOkAt d (headAt d) ≡ true → hasBtf (objectOf d) ≡ someBtf d (headAt d)
   unfolding streamOkAt recordsOkAt objectOf partsOf
   btf e =
-      let h : Head = headAt d 4 in
+      let h : Head = headAt d in
       let s = both (headOk h) (leb (endOf h) (streamLength d) && (ltb (streamLength d) (endOf h + 508) && recordsOkAt d h)) e in
       let t = both (leb (endOf h) (streamLength d)) (ltb (streamLength d) (endOf h + 508) && recordsOkAt d h) (s .1) in
       let u = both (ltb (streamLength d) (endOf h + 508)) (recordsOkAt d h) (t .1) in
@@ -95,13 +96,13 @@ module _ (d : List ℕ) (f : Framed d) where
 abbrev pub answerOf : Checked → Head → Opened
 answerOf Checked.Broken h = Opened.Refused (goesBack 2)
 answerOf Checked.Btf h = Opened.Refused (goesBack 3)
-answerOf Checked.Fine h = Opened.Head h
+answerOf Checked.Fine h = Opened.View (depositView h)
 
 pub opened-1 : (d : List ℕ) → frameOk d ≡ false → openedOf d ≡ Opened.Refused (goesBack 1)
 unfolding openedOf depositRefusal
 opened-1 d e = rw e
 
-pub opened-checked : (d : List ℕ) → frameOk d ≡ true → openedOf d ≡ answerOf (checkedStream d (headAt d 4)) (headAt d 4)
+pub opened-checked : (d : List ℕ) → frameOk d ≡ true → openedOf d ≡ answerOf (checkedStream d (headAt d)) (headAt d)
 unfolding openedOf depositRefusal checkedStream
 opened-checked d e = rw (e, stream-ok d f, head-stream d (f .whole) (f .some)) (go (streamOkAt d h) refl)
   where
@@ -109,14 +110,26 @@ opened-checked d e = rw (e, stream-ok d f, head-stream d (f .whole) (f .some)) (
     f = framed d e
 
     h : Head
-    h = headAt d 4
+    h = headAt d
 
-    last : (t : Bool) → maybe (ofDeposit 3 t) (Opened.Head h) (λ r. Opened.Refused r) ≡ answerOf (cond t Checked.Btf Checked.Fine) h
+    last : (t : Bool) → maybe (ofDeposit 3 t) (Opened.View (depositView h)) (λ r. Opened.Refused r) ≡ answerOf (cond t Checked.Btf Checked.Fine) h
     last true = refl
     last false = refl
 
     go : (b : Bool) → streamOkAt d h ≡ b
-        → maybe (orElse (ofDeposit 2 (not b)) (ofDeposit 3 (hasBtf (objectOf d)))) (Opened.Head h) (λ r. Opened.Refused r)
+        → maybe (orElse (ofDeposit 2 (not b)) (ofDeposit 3 (hasBtf (objectOf d)))) (Opened.View (depositView h)) (λ r. Opened.Refused r)
         ≡ answerOf (cond b (cond (someBtf d h) Checked.Btf Checked.Fine) Checked.Broken) h
     go true p = rw (btf d f p) (last (someBtf d h))
     go false p = refl
+
+-- the stream of one that passes ends inside its blocks
+pub fine-end : (d : List ℕ) (h : Head) → checkedStream d h ≡ Checked.Fine → endOf h ≤ streamLength d
+unfolding checkedStream streamOkAt
+fine-end d h e = go (streamOkAt d h) refl e
+  where
+    go : (b : Bool) → streamOkAt d h ≡ b → cond b (cond (someBtf d h) Checked.Btf Checked.Fine) Checked.Broken ≡ Checked.Fine → endOf h ≤ streamLength d
+    go true p q =
+        let s = both (headOk h) (leb (endOf h) (streamLength d) && (ltb (streamLength d) (endOf h + 508) && recordsOkAt d h)) p in
+        let t = both (leb (endOf h) (streamLength d)) (ltb (streamLength d) (endOf h + 508) && recordsOkAt d h) (s .1) in
+        leb-true _ _ (t .0)
+    go false p q = let z : _≡_ {A = ℕ} 0 1 = cc in absurd (omega arith)

@@ -6,6 +6,8 @@ use model::Head;
 use model::Refusal;
 use model::SectionIndex;
 use model::SymbolIndex;
+use object_view::Opened;
+use records::deposit_view;
 use records::end_of;
 use records::head;
 use rules::Checked;
@@ -14,12 +16,6 @@ use rules::head_ok;
 use rules::relocations_ok;
 use rules::rest_ok;
 use rules::symbols_ok;
-
-// The head of a deposit that passes, or why it goes back.
-pub enum Opened {
-    Head(Head),
-    Refused(Refusal),
-}
 
 fn check_stream(d: &[u8], h: Head) -> Checked
     ensures { λ r. ⌜ r ≡ checkedStream (now (d .entry)) h ⌝ }
@@ -65,10 +61,10 @@ pub fn open(d: &[u8]) -> Opened
     if !frame_ok(d) {
         return refused(1);
     }
-    let h = head(d, 4);
+    let h = head(d);
     match check_stream(d, h) {
         Checked::Broken => refused(2),
         Checked::Btf => refused(3),
-        Checked::Fine => Opened::Head(h),
+        Checked::Fine => Opened::View(deposit_view(h)),
     }
 }

@@ -4,12 +4,14 @@
 //     4 P V    the 32-bit number at P of the stream is V
 //     0 I V    byte I of the deposit is V, after the checks were put in
 // Unless changed, record i has index i + 1, a symbol lies in section 1, a relocation's target is symbol 1, a name byte is `a`, and all else is 0.
-// For each the program writes the name, what was expected, and what `open` answered: the refusal's number, or 0 and the head's six numbers.
+// For each the program writes the name, what was expected, and what `open` answered: the refusal's number, or 0 and six numbers of the view:
+// byte order, sections, symbols, relocations, and where the names and the data begin.
 ghost use Prim.Native.Nat.{_+_, _^_, _<_, _≤_};
 ghost use lib.ListN.{length};
-use deposit::Opened;
 use libc::STDOUT_FILENO;
+use model::Endianness;
 use model::Head;
+use object_view::Opened;
 use records::end_of;
 use records::names_at;
 use records::relocations_at;
@@ -233,16 +235,24 @@ fn say_number(n: u32) {
     io::print_decimal(STDOUT_FILENO, n as u64);
 }
 
+fn order_number(order: Endianness) -> u32 {
+    match order {
+        Endianness::Little => 0,
+        Endianness::Big => 1,
+    }
+}
+
 fn say_opened(o: Opened) {
     match o {
-        Opened::Head(h) => {
+        Opened::View(v) => {
+            let order = v.order;
             say_number(0);
-            say_number(h.order);
-            say_number(h.sections);
-            say_number(h.symbols);
-            say_number(h.relocations);
-            say_number(h.names);
-            say_number(h.bytes);
+            say_number(order_number(order));
+            say_number(v.sections);
+            say_number(v.symbols);
+            say_number(v.relocations);
+            say_number(v.at.names);
+            say_number(v.at.bytes);
         }
         Opened::Refused(r) => {
             say_number(r.number);

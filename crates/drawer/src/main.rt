@@ -11,6 +11,7 @@ use model::SectionIndex;
 use model::SectionRecord;
 use model::SymbolIndex;
 use model::SymbolRecord;
+use records::deposit_view;
 use text::ParsedText;
 use view::Checked;
 
@@ -180,11 +181,12 @@ fn empty_text() -> u64 {
         bytes: 0,
         reserved: 0,
     };
+    let t = [0u32; 0];
     let mut numbers = [0u32; 1];
     let parsed = text::parse_text_section(
         b"",
-        0,
-        h,
+        &t,
+        deposit_view(h),
         text_section(0),
         &[0u32; 1],
         0,

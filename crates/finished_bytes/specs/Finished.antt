@@ -8,16 +8,17 @@ use native.Mathlib.Omega.{arith}
 use lib.ListN.{length, take, drop, length-append}
 use lib.Seq.{take-at, drop-at, drop-drop}
 use Rattle.lists.specs.Part.{part-whole}
-use Rattle.model.specs.declared.Head.{Head}
+use Rattle.object_view.specs.declared.View.{View}
 use Rattle.model.specs.Bytes.{each, part, records}
 use Rattle.model.specs.PatchList.{patchesOf}
 use Rattle.model.specs.Refusals.{objectRefusal}
 use Rattle.stream.specs.Stream.{byteAt}
 use Rattle.view.specs.View.{objectIn}
 use Rattle.catalogue.specs.Numbers.{functionNumbers, mapNumbers, functions-by}
-use Rattle.accepted.specs.Readable.{Readable}
+use Rattle.records.specs.Readable.{Readable}
+use Rattle.records.specs.View.{gapOf}
 use Rattle.code.specs.Code.{AllFit}
-use Rattle.bytes.specs.Parts.{catalogue, rises}
+use Rattle.bytes.specs.Parts.{catalogue}
 use Rattle.image.specs.Tables.{rows-of-maps}
 use Rattle.decision.specs.Patches.{Ready}
 use Rattle.patch_checks.specs.Checks.{mapsOf}
@@ -185,22 +186,22 @@ part-back t y x from to h e = let g : from + (to - from) ≡ to = omega arith in
 
 -- ---- what the numbers in hand say
 
-module _ (d : List ℕ) (gap : ℕ) (h : Head) (r : Readable d gap h) (ok : objectRefusal (objectIn d gap h) ≡ none) where
-  pub functions-encoded : (small : (k : ℕ) → byteAt d gap k < 256) (n : ℕ) (order : List ℕ) → take n order ≡ functionNumbers d gap h → AllFit d gap h order n
-      → AllEncoded (catalogue d gap h .functions)
-  functions-encoded small n order e fit = rw (functions-by d gap h (rises d gap h r), ← e) (all-encoded d gap small h order n fit)
+module _ (d t : List ℕ) (v : View) (r : Readable d t v) (ok : objectRefusal (objectIn d t v) ≡ none) where
+  pub functions-encoded : (small : (k : ℕ) → byteAt d (gapOf v) k < 256) (n : ℕ) (order : List ℕ) → take n order ≡ functionNumbers d t v → AllFit d t v order n
+      → AllEncoded (catalogue d t v .functions)
+  functions-encoded small n order e fit = rw (functions-by d t v r, ← e) (all-encoded d t v small order n fit)
 
-  pub patch-ready : (entries maps order by rows : List ℕ) (n own : ℕ) → take n maps ≡ mapNumbers d gap h → n ≤ length maps → own ≡ ownStart (catalogue d gap h)
-      → rows ≡ filled 0 (length rows) (imageOf (catalogue d gap h) .maps) → Ready d gap h entries maps n order by → 0 < length entries → PatchReady d gap h order by rows own
+  pub patch-ready : (entries maps order by rows : List ℕ) (n own : ℕ) → take n maps ≡ mapNumbers d t v → n ≤ length maps → own ≡ ownStart (catalogue d t v)
+      → rows ≡ filled 0 (length rows) (imageOf (catalogue d t v) .maps) → Ready d t v entries maps n order by → 0 < length entries → PatchReady d t v order by rows own
   patch-ready entries maps order by rows n own e w f g k p =
-      let c = catalogue d gap h in
-      let q : imageOf c .maps ≡ joined (placed mapName mapOwn mapRow (mapsAt c) own (mapsOf d gap h maps n)) =
-      sym (rows-of-maps d gap h n maps w r ok e) ∙ ap (λ (b : ℕ). joined (placed mapName mapOwn mapRow (mapsAt c) b (mapsOf d gap h maps n))) (sym f)
+      let c = catalogue d t v in
+      let q : imageOf c .maps ≡ joined (placed mapName mapOwn mapRow (mapsAt c) own (mapsOf d t v maps n)) =
+      sym (rows-of-maps d t v n maps w r ok e) ∙ ap (λ (b : ℕ). joined (placed mapName mapOwn mapRow (mapsAt c) b (mapsOf d t v maps n))) (sym f)
       in
       record {
-        sited = sited-table d gap h maps n e w by (k .sited p);
+        sited = sited-table d t v maps n e w by (k .sited p);
         named = k .named p;
-        placed = rows-front d gap h maps n e w (mapsAt c) own rows _ (g ∙ ap (filled 0 (length rows)) q);
+        placed = rows-front d t v maps n e w (mapsAt c) own rows _ (g ∙ ap (filled 0 (length rows)) q);
       }
 
 pub long-done : (o : Object) (ps : List Patch) (on : Bool) (c : Catalogue) → length (bytesOf (finish o ps on c)) ≡ length (bytesOf c)

@@ -10,7 +10,7 @@ ghost use Rattle.model.specs.Patching.{patched, finish};
 ghost use Rattle.model.specs.PatchList.{patchesOf};
 ghost use Rattle.model.specs.Refusals.{objectRefusal, patchRefusal};
 ghost use Rattle.insn.specs.Sanitized.{sanitized};
-ghost use Rattle.accepted.specs.Readable.{Readable};
+ghost use Rattle.records.specs.Readable.{Readable};
 ghost use Rattle.view.specs.View.{objectIn};
 ghost use Rattle.bytes.specs.Held.{Held, At};
 ghost use Rattle.bytes.specs.Parts.{catalogue};
@@ -20,15 +20,15 @@ ghost use Rattle.patch.specs.Ready.{Ready as PatchReady};
 use bytes::Places;
 use insn::sanitize_code;
 use lists::zero8;
-use model::Head;
+use object_view::View;
 use patch::patch_map_data;
 use tables::Counts;
 
 // The maps' own bytes, which lie from `own` to `end`, as the patch list leaves them.
 fn patch_bytes(
     d: &[u8],
-    gap: usize,
-    h: Head,
+    t: &[u32],
+    v: View,
     entries: &[u64],
     patches: &[u8],
     order: &[u32],
@@ -38,11 +38,11 @@ fn patch_bytes(
     end: usize,
     out: &mut [u8],
 )
-    requires { ⌜ (0 < length (now entries) → PatchReady (now d) gap h (now order) (now by) (now rows) own) × (patchRefusal (objectIn (now d) gap h) (catalogue (now d) gap h .maps) 1 (patchesOf (now entries) (now patches)) ≡ none) × (own ≤ end) × (end ≤ length (now out)) × (part (now out) own (end - own) ≡ each mapOwn (catalogue (now d) gap h .maps)) ⌝ }
-    ensures { λ r. ⌜ now (out .exit) ≡ take own (now (out .entry)) ++ (each mapOwn (patched (objectIn (now (d .entry)) gap h) (patchesOf (now (entries .entry)) (now (patches .entry))) (catalogue (now (d .entry)) gap h) .maps) ++ drop end (now (out .entry))) ⌝ }
+    requires { ⌜ (0 < length (now entries) → PatchReady (now d) (now t) v (now order) (now by) (now rows) own) × (patchRefusal (objectIn (now d) (now t) v) (catalogue (now d) (now t) v .maps) 1 (patchesOf (now entries) (now patches)) ≡ none) × (own ≤ end) × (end ≤ length (now out)) × (part (now out) own (end - own) ≡ each mapOwn (catalogue (now d) (now t) v .maps)) ⌝ }
+    ensures { λ r. ⌜ now (out .exit) ≡ take own (now (out .entry)) ++ (each mapOwn (patched (objectIn (now (d .entry)) (now (t .entry)) v) (patchesOf (now (entries .entry)) (now (patches .entry))) (catalogue (now (d .entry)) (now (t .entry)) v) .maps) ++ drop end (now (out .entry))) ⌝ }
 {
     if entries.len() > 0 {
-        patch_map_data(d, gap, h, entries, patches, order, by, rows, own, end, out);
+        patch_map_data(d, t, v, entries, patches, order, by, rows, own, end, out);
     }
 }
 
@@ -64,8 +64,8 @@ fn clear_bytes_from(t: &mut [u8], n: usize)
 // `rows` are those of the maps' table as it is lent.
 pub fn fill_bytes(
     d: &[u8],
-    gap: usize,
-    h: Head,
+    t: &[u32],
+    v: View,
     entries: &[u64],
     patches: &[u8],
     rewrite: bool,
@@ -80,14 +80,14 @@ pub fn fill_bytes(
     rows: &[u64],
     out: &mut [u8],
 )
-    requires { ⌜ Readable (now d) gap h × (objectRefusal (objectIn (now d) gap h) ≡ none) × (patchRefusal (objectIn (now d) gap h) (catalogue (now d) gap h .maps) 1 (patchesOf (now entries) (now patches)) ≡ none) × Held (now d) gap h n (now sections) (now programs) (now functions) (now maps) × At (catalogue (now d) gap h) places × Ready (now d) gap h (now entries) (now maps) (n .maps) (now order) (now by) × (now rows ≡ filled 0 (length (now rows)) (imageOf (catalogue (now d) gap h) .maps)) × (length (bytesOf (catalogue (now d) gap h)) ≤ length (now out)) ⌝ }
-    ensures { λ r. ⌜ now (out .exit) ≡ filled 0 (length (now (out .entry))) (bytesOf (finish (objectIn (now (d .entry)) gap h) (patchesOf (now (entries .entry)) (now (patches .entry))) rewrite (catalogue (now (d .entry)) gap h))) ⌝ }
+    requires { ⌜ Readable (now d) (now t) v × (objectRefusal (objectIn (now d) (now t) v) ≡ none) × (patchRefusal (objectIn (now d) (now t) v) (catalogue (now d) (now t) v .maps) 1 (patchesOf (now entries) (now patches)) ≡ none) × Held (now d) (now t) v n (now sections) (now programs) (now functions) (now maps) × At (catalogue (now d) (now t) v) places × Ready (now d) (now t) v (now entries) (now maps) (n .maps) (now order) (now by) × (now rows ≡ filled 0 (length (now rows)) (imageOf (catalogue (now d) (now t) v) .maps)) × (length (bytesOf (catalogue (now d) (now t) v)) ≤ length (now out)) ⌝ }
+    ensures { λ r. ⌜ now (out .exit) ≡ filled 0 (length (now (out .entry))) (bytesOf (finish (objectIn (now (d .entry)) (now (t .entry)) v) (patchesOf (now (entries .entry)) (now (patches .entry))) rewrite (catalogue (now (d .entry)) (now (t .entry)) v))) ⌝ }
 {
-    bytes::put(d, gap, h, n, sections, programs, functions, maps, out);
+    bytes::put(d, t, v, n, sections, programs, functions, maps, out);
     patch_bytes(
         d,
-        gap,
-        h,
+        t,
+        v,
         entries,
         patches,
         order,

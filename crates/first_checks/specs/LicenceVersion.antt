@@ -3,11 +3,11 @@ use mathlib.Core.Path.{_≡_, refl, sym, _∙_}
 use mathlib.Core.Bool.{Bool, true, false, cond}
 use mathlib.Core.List.{List}
 use mathlib.Core.Option.{Option, none, some}
-use Prim.Native.Nat.{ℕ, _+_, _-_, _<_, _≤_}
+use Prim.Native.Nat.{ℕ, _+_, _-_}
 use native.Mathlib.Omega.{arith}
 use lib.Dec.{eqb}
 use lib.ListN.{length, take}
-use Rattle.model.specs.declared.Head.{Head}
+use Rattle.object_view.specs.declared.View.{View}
 use Rattle.model.specs.declared.SectionIndex.{SectionIndex}
 use Rattle.model.specs.declared.SectionRecord.{SectionRecord}
 use Rattle.model.specs.declared.Endianness.{Endianness}
@@ -21,10 +21,9 @@ use Rattle.model.specs.Symbols.{firstNamed}
 use Rattle.model.specs.LicenceVersion.{parseLicense, licenseNumber, versionIn, parseVersion, versionNumber}
 use Rattle.model.specs.Contents.{licenceOf, versionOf}
 use Rattle.model.specs.Refusals.{noSymbol, refuse, ofSection, ofNumber, untargeted, relocRefusal, licenceRefusal, versionRefusal}
-use Rattle.model.specs.Deposit.{byteOrder}
 use Rattle.stream.specs.Stream.{bytesAt, length-bytes}
 use Rattle.stream.specs.Laws.{take-bytes}
-use Rattle.records.specs.Records.{dataAt, sectionAt}
+use Rattle.records.specs.View.{gapOf, sectionAt}
 use Rattle.view.specs.View.{sectionFrom, sectionIn, objectIn}
 use Rattle.first_checks.specs.declared.LicenseAt.{LicenseAt}
 use Rattle.first_checks.specs.Named.{numberNamed, made-of-named}
@@ -45,21 +44,17 @@ not-refused e s f = go (untargeted (s .relocs)) (eqb (length (s .bytes)) 4) f
     go true false g = let z : _≡_ {A = ℕ} 0 1 = cc in absurd (omega arith)
     go false false g = let z : _≡_ {A = ℕ} 0 1 = cc in absurd (omega arith)
 
-module _ (d : List ℕ) (gap : ℕ) (h : Head) where
-  -- 'Ranges lie inside their tables': those of the sections' relocations
-  abbrev pub RelocsInside : Type 0
-  RelocsInside = (i : ℕ) → i < h .sections → sectionAt d gap i .relocations .at + sectionAt d gap i .relocations .length ≤ h .relocations
-
+module _ (d t : List ℕ) (v : View) where
   -- the refusals of the object's licence and version
   abbrev pub licenceRefused : Option Refusal
-  licenceRefused = maybe (firstNamed (ascii "license") (objectIn d gap h .sections)) none licenceRefusal
+  licenceRefused = maybe (firstNamed (ascii "license") (objectIn d t v .sections)) none licenceRefusal
 
   abbrev pub versionRefused : Option Refusal
-  versionRefused = maybe (firstNamed (ascii "version") (objectIn d gap h .sections)) none (versionRefusal (byteOrder (h .order)))
+  versionRefused = maybe (firstNamed (ascii "version") (objectIn d t v .sections)) none (versionRefusal (v .order))
 
   module _ (s : SectionRecord) where
     abbrev section : Section
-    section = sectionFrom d gap h s
+    section = sectionFrom d t v s
 
     module _ (u : untargeted (section .relocs) ≡ true) where
       pub licence-four : licenceRefusal section ≡ numbered (s .index) (some 4)
@@ -90,42 +85,42 @@ module _ (d : List ℕ) (gap : ℕ) (h : Head) where
 
   -- ---- the version, by the section's number
 
-  pub version-by-number : versionOf (objectIn d gap h)
-      ≡ maybe (numberNamed d gap h (ascii "version")) KernelVersion.Any (λ i. versionIn (byteOrder (h .order)) (sectionIn d gap h i .bytes))
+  pub version-by-number : versionOf (objectIn d t v)
+      ≡ maybe (numberNamed d t v (ascii "version")) KernelVersion.Any (λ i. versionIn (v .order) (sectionIn d t v i .bytes))
   unfolding versionOf objectIn
-  version-by-number = made-of-named d gap h (ascii "version") KernelVersion.Any (λ s. versionIn (byteOrder (h .order)) (s .bytes))
+  version-by-number = made-of-named d t v (ascii "version") KernelVersion.Any (λ s. versionIn (v .order) (s .bytes))
 
   -- where it is not refused, what is parsed is the version
-  pub version-kept : (i : ℕ) → numberNamed d gap h (ascii "version") ≡ some i → versionRefused ≡ none
-      → parseVersion (byteOrder (h .order)) (sectionIn d gap h i .bytes) ≡ ParsedVersion.Version (versionIn (byteOrder (h .order)) (sectionIn d gap h i .bytes))
+  pub version-kept : (i : ℕ) → numberNamed d t v (ascii "version") ≡ some i → versionRefused ≡ none
+      → parseVersion (v .order) (sectionIn d t v i .bytes) ≡ ParsedVersion.Version (versionIn (v .order) (sectionIn d t v i .bytes))
   version-kept i e f =
-      let e₁ = made-of-named d gap h (ascii "version") none (versionRefusal (byteOrder (h .order))) in
-      let e₂ : versionRefusal (byteOrder (h .order)) (sectionIn d gap h i) ≡ none = sym (e₁ ∙ rw e) ∙ f in
-      not-refused (byteOrder (h .order)) (sectionIn d gap h i) e₂
+      let e₁ = made-of-named d t v (ascii "version") none (versionRefusal (v .order)) in
+      let e₂ : versionRefusal (v .order) (sectionIn d t v i) ≡ none = sym (e₁ ∙ rw e) ∙ f in
+      not-refused (v .order) (sectionIn d t v i) e₂
 
   -- ---- where the licence stands
 
   abbrev pub licenseIn : ℕ → LicenseAt
-  licenseIn i = LicenseAt.Bytes (dataAt h + sectionAt d gap i .bytes .at) (sectionAt d gap i .bytes .length - 1)
+  licenseIn i = LicenseAt.Bytes (v .at .bytes + sectionAt d t v i .bytes .at) (sectionAt d t v i .bytes .length - 1)
 
   unfoldable pub licenseAt : LicenseAt
-  licenseAt = maybe (numberNamed d gap h (ascii "license")) LicenseAt.Gpl licenseIn
+  licenseAt = maybe (numberNamed d t v (ascii "license")) LicenseAt.Gpl licenseIn
 
   -- its bytes
   abbrev pub licenseBytes : LicenseAt → List ℕ
   licenseBytes LicenseAt.Gpl = ascii "GPL"
-  licenseBytes (LicenseAt.Bytes at n) = bytesAt d gap at n
+  licenseBytes (LicenseAt.Bytes at n) = bytesAt d (gapOf v) at n
 
-  pub license-bytes : licenseBytes licenseAt ≡ licenceOf (objectIn d gap h)
+  pub license-bytes : licenseBytes licenseAt ≡ licenceOf (objectIn d t v)
   unfolding licenseAt licenceOf sectionFrom
   license-bytes =
-      go (numberNamed d gap h (ascii "license"))
-      ∙ sym (made-of-named d gap h (ascii "license") (ascii "GPL") (λ s. take (length (s .bytes) - 1) (s .bytes)))
+      go (numberNamed d t v (ascii "license"))
+      ∙ sym (made-of-named d t v (ascii "license") (ascii "GPL") (λ s. take (length (s .bytes) - 1) (s .bytes)))
     where
       go : (o : Option ℕ)
           → licenseBytes (maybe o LicenseAt.Gpl licenseIn)
-          ≡ maybe o (ascii "GPL") (λ i. take (length (sectionIn d gap h i .bytes) - 1) (sectionIn d gap h i .bytes))
+          ≡ maybe o (ascii "GPL") (λ i. take (length (sectionIn d t v i .bytes) - 1) (sectionIn d t v i .bytes))
       go none = refl
       go (some i) =
-          let e = sectionAt d gap i .bytes in
-          rw (length-bytes d gap (dataAt h + e .at) (e .length)) (sym (take-bytes d gap (dataAt h + e .at) (e .length) (e .length - 1) (omega arith)))
+          let e = sectionAt d t v i .bytes in
+          rw (length-bytes d (gapOf v) (v .at .bytes + e .at) (e .length)) (sym (take-bytes d (gapOf v) (v .at .bytes + e .at) (e .length) (e .length - 1) (omega arith)))

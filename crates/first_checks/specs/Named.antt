@@ -3,18 +3,15 @@ use mathlib.Core.Path.{_≡_, refl, sym, ap, _∙_}
 use mathlib.Core.Bool.{Bool, true, false, cond}
 use mathlib.Core.List.{List, [], _∷_, map}
 use mathlib.Core.Option.{Option, none, some}
-use Prim.Native.Nat.{ℕ, zero, suc, _+_, _*_, _<_}
+use Prim.Native.Nat.{ℕ, zero, suc, _+_, _<_}
 use native.Mathlib.Omega.{arith}
 use Rattle.lists.specs.Tab.{tab}
-use Rattle.model.specs.declared.Head.{Head}
+use Rattle.object_view.specs.declared.View.{View}
 use Rattle.model.specs.Bytes.{same, firstIn, find, orElse, maybe}
 use Rattle.model.specs.Object.{Section}
 use Rattle.model.specs.Symbols.{firstNamed}
 use Rattle.plan.specs.Numbers.{upTo, firstIn-append, firstIn-on, firstIn-at, tab-is-map}
-use Rattle.stream.specs.Stream.{bytesAt}
-use Rattle.records.specs.Records.{namesAt, sectionAt, extentAt}
-use Rattle.records.specs.Fields.{section-fields}
-use Rattle.view.specs.View.{sectionFrom, sectionIn, objectIn}
+use Rattle.view.specs.View.{sectionIn, objectIn}
 use Rattle.first_checks.specs.declared.Found.{Found}
 
 abbrev pub foundOf : Option ℕ → Found
@@ -71,47 +68,31 @@ find-map {A} p s (j ∷ l) = go (p (s j)) (find-map p s l)
 
 -- ---- sections by name
 
-module _ (d : List ℕ) (gap : ℕ) where
-  -- the name of section i, of names that begin at `names`
-  unfoldable pub nameAt : ℕ → ℕ → List ℕ
-  nameAt names i = bytesAt d gap (names + sectionAt d gap i .name .at) (sectionAt d gap i .name .length)
-
-  -- the place of its range
-  pub name-place : (i p : ℕ) → p ≡ 40 + 48 * i → sectionAt d gap i .name ≡ extentAt d gap p
-  unfolding sectionAt
-  name-place i p e =
-      let q : 32 + 48 * i + 8 ≡ p = omega arith in
-      ap (λ r. r .name) (section-fields d gap (32 + 48 * i)) ∙ ap (extentAt d gap) q
-
+module _ (d t : List ℕ) (v : View) (word : List ℕ) where
   -- whether section i is named exactly so
-  abbrev pub namedAt : List ℕ → ℕ → ℕ → Bool
-  namedAt word names i = same word (nameAt names i)
+  abbrev pub namedAt : ℕ → Bool
+  namedAt i = same word (sectionIn d t v i .name)
 
-  module _ (h : Head) (word : List ℕ) where
-    -- the first section of that name
-    unfoldable pub numberNamed : Option ℕ
-    numberNamed = find (λ i. same word (sectionIn d gap h i .name)) (upTo (h .sections))
+  -- the first section of that name
+  unfoldable pub numberNamed : Option ℕ
+  numberNamed = firstOf namedAt (v .sections)
 
-    pub number-by-names : (names : ℕ) → names ≡ namesAt h → numberNamed ≡ firstOf (namedAt word names) (h .sections)
-    unfolding numberNamed sectionFrom nameAt
-    number-by-names names e = rw e
+  pub number-named : firstNamed word (tab (sectionIn d t v) (v .sections)) ≡ maybe numberNamed none (λ i. some (sectionIn d t v i))
+  unfolding firstNamed numberNamed
+  number-named =
+      ap (find (λ s. same word (s .name))) (tab-is-map (sectionIn d t v) (v .sections))
+      ∙ find-map (λ s. same word (s .name)) (sectionIn d t v) (upTo (v .sections))
 
-    pub number-named : firstNamed word (tab (sectionIn d gap h) (h .sections)) ≡ maybe numberNamed none (λ i. some (sectionIn d gap h i))
-    unfolding firstNamed numberNamed
-    number-named =
-        ap (find (λ s. same word (s .name))) (tab-is-map (sectionIn d gap h) (h .sections))
-        ∙ find-map (λ s. same word (s .name)) (sectionIn d gap h) (upTo (h .sections))
+  -- what is made of that section
+  pub made-of-named : {B : Type 0} (b : B) (f : Section → B)
+      → maybe (firstNamed word (objectIn d t v .sections)) b f ≡ maybe numberNamed b (λ i. f (sectionIn d t v i))
+  unfolding objectIn
+  made-of-named b f = ap (λ o. maybe o b f) number-named ∙ go numberNamed
+    where
+      go : (o : Option ℕ) → maybe (maybe o none (λ i. some (sectionIn d t v i))) b f ≡ maybe o b (λ i. f (sectionIn d t v i))
+      go none = refl
+      go (some i) = refl
 
-    -- what is made of that section
-    pub made-of-named : {B : Type 0} (b : B) (f : Section → B)
-        → maybe (firstNamed word (objectIn d gap h .sections)) b f ≡ maybe numberNamed b (λ i. f (sectionIn d gap h i))
-    unfolding objectIn
-    made-of-named b f = ap (λ o. maybe o b f) number-named ∙ go numberNamed
-      where
-        go : (o : Option ℕ) → maybe (maybe o none (λ i. some (sectionIn d gap h i))) b f ≡ maybe o b (λ i. f (sectionIn d gap h i))
-        go none = refl
-        go (some i) = refl
-
-    pub number-below : (i : ℕ) → numberNamed ≡ some i → i < h .sections
-    unfolding numberNamed
-    number-below i e = first-below (λ j. same word (sectionIn d gap h j .name)) (h .sections) i e
+  pub number-below : (i : ℕ) → numberNamed ≡ some i → i < v .sections
+  unfolding numberNamed
+  number-below i e = first-below namedAt (v .sections) i e

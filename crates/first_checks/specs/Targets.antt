@@ -3,7 +3,7 @@ use mathlib.Core.Path.{_≡_, refl, sym, ap, _∙_}
 use mathlib.Core.Bool.{Bool, true, false, cond, _||_, _&&_, not}
 use mathlib.Core.List.{List, [], _∷_, _++_, append-assoc}
 use mathlib.Core.Option.{none, some}
-use Prim.Native.Nat.{ℕ, zero, suc, _+_, _-_, _*_, _<_, _≤_}
+use Prim.Native.Nat.{ℕ, zero, suc, _+_, _-_, _<_, _≤_}
 use native.Mathlib.Omega.{arith}
 use native.Mathlib.Nat.{not-suc-le-zero, le-of-suc-le-suc}
 use borrow.Author.Tests.{lt-ltb, le-ltb}
@@ -12,14 +12,12 @@ use lib.ListN.{length, getD, take, drop, set, length-append, take-append-drop, L
 use lib.Seq.{take-suc, length-take-le, set-at}
 use Rattle.lists.specs.Tab.{tab, tab-none, tab-ext, length-tab, getD-tab}
 use Rattle.model.specs.declared.Extent.{Extent}
-use Rattle.model.specs.declared.Head.{Head}
+use Rattle.object_view.specs.declared.View.{View}
 use Rattle.model.specs.declared.SectionRecord.{SectionRecord}
-use Rattle.model.specs.Bytes.{little, isSome}
+use Rattle.model.specs.Bytes.{isSome}
 use Rattle.model.specs.Refusals.{untargeted}
-use Rattle.model.specs.Deposit.{relocOf, relocationRecord}
-use Rattle.stream.specs.Stream.{bytesAt}
-use Rattle.stream.specs.Laws.{part-bytes}
-use Rattle.records.specs.Records.{relocationsAt, relocationAt}
+use Rattle.model.specs.Deposit.{relocOf}
+use Rattle.records.specs.View.{relocationAt}
 use Rattle.view.specs.View.{relocIn, sectionFrom}
 
 -- ---- the nearest number that passes
@@ -40,24 +38,19 @@ module _ (p : ℕ → Bool) where
       go false h = omega arith
 
   -- among the numbers from k to r
-  abbrev pub nearest : ℕ → ℕ → ℕ
+  abbrev nearest : ℕ → ℕ → ℕ
   nearest r k = nearestIn k (r - k)
 
-  pub nearest-end : (r : ℕ) → nearest r r ≡ r
+  nearest-end : (r : ℕ) → nearest r r ≡ r
   unfolding nearestIn
   nearest-end r = let e : r - r ≡ 0 = omega arith in rw e
 
-  pub nearest-before : (r k : ℕ) → 0 < k → k ≤ r → nearest r (k - 1) ≡ cond (p (k - 1)) (k - 1) (nearest r k)
+  nearest-before : (r k : ℕ) → 0 < k → k ≤ r → nearest r (k - 1) ≡ cond (p (k - 1)) (k - 1) (nearest r k)
   unfolding nearestIn
   nearest-before r k g l =
       let e : r - (k - 1) ≡ suc (r - k) = omega arith in
       let f : suc (k - 1) ≡ k = omega arith in
       ap (nearestIn (k - 1)) e ∙ ap (λ m. cond (p (k - 1)) (k - 1) (nearestIn m (r - k))) f
-
-nearest-ext : (p q : ℕ → Bool) → ((k : ℕ) → p k ≡ q k) → (k n : ℕ) → nearestIn p k n ≡ nearestIn q k n
-unfolding nearestIn
-nearest-ext p q e k zero = refl
-nearest-ext p q e k (suc n) = λ i. cond (e k i) k (nearest-ext p q e (suc k) n i)
 
 -- whether one of n numbers from k on passes
 anyFrom : (ℕ → Bool) → ℕ → ℕ → Bool
@@ -123,66 +116,69 @@ module _ {A : Type 0} where
 
 -- ---- relocations
 
--- whether relocation k has none, of relocations that begin at p: 'u64 offset, u32 symbol (0xFFFFFFFF: target is no symbol)'
-abbrev pub noSymbolAt : List ℕ → ℕ → ℕ → ℕ → Bool
-noSymbolAt d gap p k = eqb (little (bytesAt d gap (p + 16 * k + 8) 4)) 0xFFFFFFFF
-
-module _ (d : List ℕ) (gap : ℕ) (h : Head) where
+module _ (d t : List ℕ) (v : View) where
   -- whether relocation k has no symbol as target
   unfoldable pub noTarget : ℕ → Bool
-  noTarget k = not (isSome (relocIn d gap h k .symbol))
+  noTarget k = not (isSome (relocIn d t v k .symbol))
 
   -- the nearest relocation from k on that has no symbol as target, else their number
   unfoldable pub nextUntargeted : ℕ → ℕ
-  nextUntargeted k = nearest noTarget (h .relocations) k
+  nextUntargeted k = nearest noTarget (v .relocations) k
 
   -- what `next` holds for each relocation
   pub record NextOf (next : List ℕ) : Type 0 where
-    pub enough : h .relocations ≤ length next
-    pub holds : (k : ℕ) → k < h .relocations → getD next k 0 ≡ nextUntargeted k
+    pub enough : v .relocations ≤ length next
+    pub holds : (k : ℕ) → k < v .relocations → getD next k 0 ≡ nextUntargeted k
 
   -- as a loop from the end makes it
-  pub next-of : (next : List ℕ) → h .relocations ≤ length next → NextOf (tab nextUntargeted (h .relocations) ++ drop (h .relocations) next)
+  pub next-of : (next : List ℕ) → v .relocations ≤ length next → NextOf (tab nextUntargeted (v .relocations) ++ drop (v .relocations) next)
   next-of next g = record {
     enough = rw (length-append, length-tab) (omega arith);
     holds = λ k l.
-        let q : k < length (tab nextUntargeted (h .relocations)) = rw length-tab l in rw List·getD-append (getD-tab nextUntargeted (h .relocations) k 0 l);
+        let q : k < length (tab nextUntargeted (v .relocations)) = rw length-tab l in rw List·getD-append (getD-tab nextUntargeted (v .relocations) k 0 l);
   }
 
-  no-target : (k : ℕ) → noTarget k ≡ noSymbolAt d gap (relocationsAt h) k
-  unfolding noTarget relocIn relocOf relocationAt relocationRecord
-  no-target k = rw (← part-bytes d gap (relocationsAt h + 16 * k) 16 8 4 (omega arith)) (go (eqb (relocationAt d gap h k .symbol .0) 0xFFFFFFFF))
+  -- told by its record: 'u64 offset, u32 symbol (0xFFFFFFFF: target is no symbol)'
+  no-target : (k : ℕ) → noTarget k ≡ eqb (relocationAt d t v k .symbol .0) 0xFFFFFFFF
+  unfolding noTarget relocIn relocOf
+  no-target k = go (eqb (relocationAt d t v k .symbol .0) 0xFFFFFFFF)
     where
-      go : (b : Bool) → not (isSome (cond b none (some (relocationAt d gap h k .symbol)))) ≡ b
+      go : (b : Bool) → not (isSome (cond b none (some (relocationAt d t v k .symbol)))) ≡ b
       go true = refl
       go false = refl
 
-  pub next-by-place : (k : ℕ) → nextUntargeted k ≡ nearest (noSymbolAt d gap (relocationsAt h)) (h .relocations) k
+  -- at the end, and one relocation before it
+  pub next-end : nextUntargeted (v .relocations) ≡ v .relocations
   unfolding nextUntargeted
-  next-by-place k = nearest-ext noTarget (noSymbolAt d gap (relocationsAt h)) no-target k (h .relocations - k)
+  next-end = nearest-end noTarget (v .relocations)
+
+  pub next-before : (k : ℕ) → 0 < k → k ≤ v .relocations
+      → nextUntargeted (k - 1) ≡ cond (eqb (relocationAt d t v (k - 1) .symbol .0) 0xFFFFFFFF) (k - 1) (nextUntargeted k)
+  unfolding nextUntargeted
+  next-before k g l = nearest-before noTarget (v .relocations) k g l ∙ ap (λ b. cond b (k - 1) (nearest noTarget (v .relocations) k)) (no-target (k - 1))
 
   -- ---- number 4 of a range
 
-  range-any : (k n : ℕ) → untargeted (tab (λ j. relocIn d gap h (k + j)) n) ≡ anyFrom noTarget k n
+  range-any : (k n : ℕ) → untargeted (tab (λ j. relocIn d t v (k + j)) n) ≡ anyFrom noTarget k n
   unfolding untargeted tab anyFrom noTarget
   range-any k zero = refl
   range-any k (suc n) =
-      ap untargeted (tab-from (relocIn d gap h) k n) ∙ ap (λ b. not (isSome (relocIn d gap h k .symbol)) || b) (range-any (suc k) n)
+      ap untargeted (tab-from (relocIn d t v) k n) ∙ ap (λ b. not (isSome (relocIn d t v k .symbol)) || b) (range-any (suc k) n)
 
   -- it has an untargeted relocation just where the next one from its start on lies below its end
-  pub range-untargeted : (k n : ℕ) → k + n ≤ h .relocations → untargeted (tab (λ j. relocIn d gap h (k + j)) n) ≡ ltb (nextUntargeted k) (k + n)
+  pub range-untargeted : (k n : ℕ) → k + n ≤ v .relocations → untargeted (tab (λ j. relocIn d t v (k + j)) n) ≡ ltb (nextUntargeted k) (k + n)
   unfolding nextUntargeted
-  range-untargeted k n l = range-any k n ∙ any-nearest noTarget k n (h .relocations - k) (omega arith)
+  range-untargeted k n l = range-any k n ∙ any-nearest noTarget k n (v .relocations - k) (omega arith)
 
 -- what `untargeted` answers of a range: whether the number that stands at its start lies below its end
 unfoldable pub reaches : List ℕ → Extent → Bool
 reaches next e = ltb 0 (e .length) && ltb (getD next (e .at) 0) (e .at + e .length)
 
-pub reaches-untargeted : (d : List ℕ) (gap : ℕ) (h : Head) (next : List ℕ) (s : SectionRecord) → NextOf d gap h next
-    → s .relocations .at + s .relocations .length ≤ h .relocations → reaches next (s .relocations) ≡ untargeted (sectionFrom d gap h s .relocs)
+pub reaches-untargeted : (d t : List ℕ) (v : View) (next : List ℕ) (s : SectionRecord) → NextOf d t v next
+    → s .relocations .at + s .relocations .length ≤ v .relocations → reaches next (s .relocations) ≡ untargeted (sectionFrom d t v s .relocs)
 unfolding reaches sectionFrom untargeted tab
-reaches-untargeted d gap h next s t l = go (s .relocations .at) (s .relocations .length) l
+reaches-untargeted d t v next s h l = go (s .relocations .at) (s .relocations .length) l
   where
-    go : (k n : ℕ) → k + n ≤ h .relocations → (ltb 0 n && ltb (getD next k 0) (k + n)) ≡ untargeted (tab (λ j. relocIn d gap h (k + j)) n)
+    go : (k n : ℕ) → k + n ≤ v .relocations → (ltb 0 n && ltb (getD next k 0) (k + n)) ≡ untargeted (tab (λ j. relocIn d t v (k + j)) n)
     go k zero l = refl
-    go k (suc n) l = rw (lt-ltb 0 (suc n) (omega arith), t .holds k (omega arith)) (sym (range-untargeted d gap h k (suc n) l))
+    go k (suc n) l = rw (lt-ltb 0 (suc n) (omega arith), h .holds k (omega arith)) (sym (range-untargeted d t v k (suc n) l))

@@ -3,7 +3,7 @@ ghost use mathlib.Core.Path.{_≡_};
 ghost use mathlib.Core.Bool.{cond};
 ghost use mathlib.Core.List.{_++_};
 ghost use mathlib.Core.Option.{none};
-ghost use Prim.Native.Nat.{_+_, _^_, _<_, _≤_};
+ghost use Prim.Native.Nat.{_+_, _≤_};
 ghost use lib.Dec.{eqb};
 ghost use lib.ListN.{length, drop};
 ghost use Rattle.lists.specs.Tab.{tab};
@@ -11,22 +11,20 @@ ghost use Rattle.model.specs.Bytes.{same};
 ghost use Rattle.model.specs.LicenceVersion.{parseLicense, parseVersion};
 ghost use Rattle.model.specs.Refusals.{licenceRefusal, versionRefusal};
 ghost use Rattle.model.specs.Contents.{versionOf};
-ghost use Rattle.model.specs.Deposit.{byteOrder};
+ghost use Rattle.records.specs.Readable.{Readable};
 ghost use Rattle.view.specs.Checked.{checkedOf};
-ghost use Rattle.view.specs.View.{sectionFrom, objectIn};
-ghost use Rattle.first_checks.specs.Named.{foundOf, nameAt, numberNamed};
+ghost use Rattle.view.specs.View.{sectionFrom, sectionIn, objectIn};
+ghost use Rattle.first_checks.specs.Named.{foundOf, numberNamed};
 ghost use Rattle.first_checks.specs.Targets.{NextOf, nextUntargeted, reaches};
-ghost use Rattle.first_checks.specs.LicenceVersion.{RelocsInside, licenceRefused, versionRefused, licenseAt};
-use model::Endianness;
-use model::Head;
+ghost use Rattle.first_checks.specs.LicenceVersion.{licenceRefused, versionRefused, licenseAt};
 use model::KernelVersion;
 use model::ParsedLicense;
 use model::ParsedVersion;
 use model::SectionRecord;
-use records::data_at;
-use records::names_at;
+use object_view::View;
+use records::data_place;
+use records::name_at;
 use stream::size;
-use stream::u32_at;
 use view::Checked;
 
 // A relocation's symbol, where its target is none.
@@ -43,27 +41,24 @@ pub enum LicenseAt {
     Bytes(usize, usize),
 }
 
-// Whether section i is named exactly word, of names that begin at `names`.
-fn is_named(d: &[u8], gap: usize, names: usize, i: u32, word: &[u8]) -> bool
-    requires { ⌜ (gap ≤ 4) × (names < 2 ^ 42) ⌝ }
-    ensures { λ r. ⌜ r ≡ same (now (word .entry)) (nameAt (now (d .entry)) gap names i) ⌝ }
+// Whether section i is named exactly word.
+fn is_named(d: &[u8], t: &[u32], v: View, i: u32, word: &[u8]) -> bool
+    ensures { λ r. ⌜ r ≡ same (now (word .entry)) (sectionIn (now (d .entry)) (now (t .entry)) v i .name) ⌝ }
 {
-    let p = 40 + 48 * size(i);
-    let at = names + size(u32_at(d, gap, p));
-    let n = size(u32_at(d, gap, p + 4));
-    names::same(d, gap, at, n, word)
+    let e = records::section_name(d, t, v, i);
+    let at = name_at(v, e);
+    let n = size(e.length);
+    names::same(d, records::gap(v), at, n, word)
 }
 
 // The first section that is named exactly word.
-pub fn first_named(d: &[u8], gap: usize, h: Head, word: &[u8]) -> Found
-    requires { ⌜ gap ≤ 4 ⌝ }
-    ensures { λ r. ⌜ r ≡ foundOf (numberNamed (now (d .entry)) gap h (now (word .entry))) ⌝ }
+pub fn first_named(d: &[u8], t: &[u32], v: View, word: &[u8]) -> Found
+    ensures { λ r. ⌜ r ≡ foundOf (numberNamed (now (d .entry)) (now (t .entry)) v (now (word .entry))) ⌝ }
 {
-    let names = names_at(h);
-    let end = h.sections;
+    let end = v.sections;
     let mut i: u32 = 0;
     while i < end {
-        if is_named(d, gap, names, i, word) {
+        if is_named(d, t, v, i, word) {
             return Found::At(i);
         }
         i += 1;
@@ -78,21 +73,19 @@ fn nearer(symbol: u32, k: u32, nearest: u32) -> u32
 }
 
 // For each relocation the nearest one, from it on, that has no symbol as target; their number, if there is none.
-pub fn next_untargeted(d: &[u8], gap: usize, h: Head, next: &mut [u32])
-    requires { ⌜ (gap ≤ 4) × (h .relocations ≤ length (now next)) ⌝ }
+pub fn next_untargeted(d: &[u8], t: &[u32], v: View, next: &mut [u32])
+    requires { ⌜ v .relocations ≤ length (now next) ⌝ }
     ensures { λ r.
         ⌜
         now (next .exit)
-        ≡ tab (nextUntargeted (now (d .entry)) gap h) (h .relocations) ++ drop (h .relocations) (now (next .entry))
+        ≡ tab (nextUntargeted (now (d .entry)) (now (t .entry)) v) (v .relocations) ++ drop (v .relocations) (now (next .entry))
         ⌝ }
 {
-    let mut p = names_at(h);
-    let mut k = h.relocations;
+    let mut k = v.relocations;
     let mut nearest = k;
     while k > 0 {
         k -= 1;
-        p -= 16;
-        nearest = nearer(u32_at(d, gap, p + 8), k, nearest);
+        nearest = nearer(records::relocation_symbol(d, t, v, k).0, k, nearest);
         let i = size(k);
         next[i] = nearest;
     }
@@ -111,45 +104,34 @@ pub fn untargeted(s: SectionRecord, next: &[u32]) -> bool
     size(next[first]) < first + n
 }
 
-fn parsed_license(d: &[u8], gap: usize, h: Head, s: SectionRecord) -> ParsedLicense
-    requires { ⌜ gap ≤ 4 ⌝ }
-    ensures { λ r. ⌜ r ≡ parseLicense (sectionFrom (now (d .entry)) gap h s .bytes) ⌝ }
+fn parsed_license(d: &[u8], t: &[u32], v: View, s: SectionRecord) -> ParsedLicense
+    ensures { λ r. ⌜ r ≡ parseLicense (sectionFrom (now (d .entry)) (now (t .entry)) v s .bytes) ⌝ }
 {
-    let at = data_at(h) + size(s.bytes.at);
+    let at = data_place(v, s.bytes);
     let n = size(s.bytes.length);
-    license::parse_license(d, gap, at, n)
+    license::parse_license(d, records::gap(v), at, n)
 }
 
-pub fn byte_order(h: Head) -> Endianness
-    ensures { λ r. ⌜ r ≡ byteOrder (h .order) ⌝ }
+fn parsed_version(d: &[u8], t: &[u32], v: View, s: SectionRecord) -> ParsedVersion
+    ensures { λ r. ⌜ r ≡ parseVersion (v .order) (sectionFrom (now (d .entry)) (now (t .entry)) v s .bytes) ⌝ }
 {
-    if h.order == 1 {
-        Endianness::Big
-    } else {
-        Endianness::Little
-    }
-}
-
-fn parsed_version(d: &[u8], gap: usize, h: Head, s: SectionRecord) -> ParsedVersion
-    requires { ⌜ gap ≤ 4 ⌝ }
-    ensures { λ r. ⌜ r ≡ parseVersion (byteOrder (h .order)) (sectionFrom (now (d .entry)) gap h s .bytes) ⌝ }
-{
-    let at = data_at(h) + size(s.bytes.at);
+    let at = data_place(v, s.bytes);
     let n = size(s.bytes.length);
-    license::parse_version(d, gap, at, n, byte_order(h))
+    let order = v.order;
+    license::parse_version(d, records::gap(v), at, n, order)
 }
 
 // Numbers 4 to 6 of the section that is the licence.
-fn check_license(d: &[u8], gap: usize, h: Head, s: SectionRecord, next: &[u32]) -> Checked
+fn check_license(d: &[u8], t: &[u32], v: View, s: SectionRecord, next: &[u32]) -> Checked
     requires { ⌜
-        (gap ≤ 4) × NextOf (now d) gap h (now next) × (s .relocations .at + s .relocations .length ≤ h .relocations)
+        NextOf (now d) (now t) v (now next) × (s .relocations .at + s .relocations .length ≤ v .relocations)
         ⌝ }
-    ensures { λ r. ⌜ r ≡ checkedOf (licenceRefusal (sectionFrom (now (d .entry)) gap h s)) ⌝ }
+    ensures { λ r. ⌜ r ≡ checkedOf (licenceRefusal (sectionFrom (now (d .entry)) (now (t .entry)) v s)) ⌝ }
 {
     if untargeted(s, next) {
         return view::of_section(4, s);
     }
-    match parsed_license(d, gap, h, s) {
+    match parsed_license(d, t, v, s) {
         ParsedLicense::License(_) => Checked::Fine,
         ParsedLicense::InvalidLicense => view::of_section(5, s),
         ParsedLicense::MissingLicenseNullTerminator => view::of_section(6, s),
@@ -157,51 +139,50 @@ fn check_license(d: &[u8], gap: usize, h: Head, s: SectionRecord, next: &[u32]) 
 }
 
 // Numbers 4 and 7 of the section that is the version.
-fn check_version(d: &[u8], gap: usize, h: Head, s: SectionRecord, next: &[u32]) -> Checked
+fn check_version(d: &[u8], t: &[u32], v: View, s: SectionRecord, next: &[u32]) -> Checked
     requires { ⌜
-        (gap ≤ 4) × NextOf (now d) gap h (now next) × (s .relocations .at + s .relocations .length ≤ h .relocations)
+        NextOf (now d) (now t) v (now next) × (s .relocations .at + s .relocations .length ≤ v .relocations)
         ⌝ }
-    ensures { λ r. ⌜ r ≡ checkedOf (versionRefusal (byteOrder (h .order)) (sectionFrom (now (d .entry)) gap h s)) ⌝ }
+    ensures { λ r. ⌜ r ≡ checkedOf (versionRefusal (v .order) (sectionFrom (now (d .entry)) (now (t .entry)) v s)) ⌝ }
 {
     if untargeted(s, next) {
         return view::of_section(4, s);
     }
-    match parsed_version(d, gap, h, s) {
+    match parsed_version(d, t, v, s) {
         ParsedVersion::Version(_) => Checked::Fine,
         ParsedVersion::InvalidKernelVersion => view::of_section(7, s),
     }
 }
 
-pub fn license_refusal(d: &[u8], gap: usize, h: Head, next: &[u32]) -> Checked
-    requires { ⌜ (gap ≤ 4) × NextOf (now d) gap h (now next) × RelocsInside (now d) gap h ⌝ }
-    ensures { λ r. ⌜ r ≡ checkedOf (licenceRefused (now (d .entry)) gap h) ⌝ }
+pub fn license_refusal(d: &[u8], t: &[u32], v: View, next: &[u32]) -> Checked
+    requires { ⌜ NextOf (now d) (now t) v (now next) × Readable (now d) (now t) v ⌝ }
+    ensures { λ r. ⌜ r ≡ checkedOf (licenceRefused (now (d .entry)) (now (t .entry)) v) ⌝ }
 {
-    let Found::At(i) = first_named(d, gap, h, b"license") else {
+    let Found::At(i) = first_named(d, t, v, b"license") else {
         return Checked::Fine;
     };
-    check_license(d, gap, h, records::section(d, gap, i), next)
+    check_license(d, t, v, records::section(d, t, v, i), next)
 }
 
-pub fn version_refusal(d: &[u8], gap: usize, h: Head, next: &[u32]) -> Checked
-    requires { ⌜ (gap ≤ 4) × NextOf (now d) gap h (now next) × RelocsInside (now d) gap h ⌝ }
-    ensures { λ r. ⌜ r ≡ checkedOf (versionRefused (now (d .entry)) gap h) ⌝ }
+pub fn version_refusal(d: &[u8], t: &[u32], v: View, next: &[u32]) -> Checked
+    requires { ⌜ NextOf (now d) (now t) v (now next) × Readable (now d) (now t) v ⌝ }
+    ensures { λ r. ⌜ r ≡ checkedOf (versionRefused (now (d .entry)) (now (t .entry)) v) ⌝ }
 {
-    let Found::At(i) = first_named(d, gap, h, b"version") else {
+    let Found::At(i) = first_named(d, t, v, b"version") else {
         return Checked::Fine;
     };
-    check_version(d, gap, h, records::section(d, gap, i), next)
+    check_version(d, t, v, records::section(d, t, v, i), next)
 }
 
 // The licence of an object.
-pub fn license_of(d: &[u8], gap: usize, h: Head) -> LicenseAt
-    requires { ⌜ gap ≤ 4 ⌝ }
-    ensures { λ r. ⌜ r ≡ licenseAt (now (d .entry)) gap h ⌝ }
+pub fn license_of(d: &[u8], t: &[u32], v: View) -> LicenseAt
+    ensures { λ r. ⌜ r ≡ licenseAt (now (d .entry)) (now (t .entry)) v ⌝ }
 {
-    let Found::At(i) = first_named(d, gap, h, b"license") else {
+    let Found::At(i) = first_named(d, t, v, b"license") else {
         return LicenseAt::Gpl;
     };
-    let s = records::section(d, gap, i);
-    let at = data_at(h) + size(s.bytes.at);
+    let s = records::section(d, t, v, i);
+    let at = data_place(v, s.bytes);
     let n = size(s.bytes.length);
     if n == 0 {
         return LicenseAt::Bytes(at, 0);
@@ -210,15 +191,15 @@ pub fn license_of(d: &[u8], gap: usize, h: Head) -> LicenseAt
 }
 
 // The version of an object that is not refused for it.
-pub fn version_of(d: &[u8], gap: usize, h: Head) -> KernelVersion
-    requires { ⌜ (gap ≤ 4) × (versionRefused (now d) gap h ≡ none) ⌝ }
-    ensures { λ r. ⌜ r ≡ versionOf (objectIn (now (d .entry)) gap h) ⌝ }
+pub fn version_of(d: &[u8], t: &[u32], v: View) -> KernelVersion
+    requires { ⌜ versionRefused (now d) (now t) v ≡ none ⌝ }
+    ensures { λ r. ⌜ r ≡ versionOf (objectIn (now (d .entry)) (now (t .entry)) v) ⌝ }
 {
-    let Found::At(i) = first_named(d, gap, h, b"version") else {
+    let Found::At(i) = first_named(d, t, v, b"version") else {
         return KernelVersion::Any;
     };
-    match parsed_version(d, gap, h, records::section(d, gap, i)) {
-        ParsedVersion::Version(v) => v,
+    match parsed_version(d, t, v, records::section(d, t, v, i)) {
+        ParsedVersion::Version(version) => version,
         ParsedVersion::InvalidKernelVersion => KernelVersion::Any,
     }
 }

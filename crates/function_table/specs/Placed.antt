@@ -12,12 +12,10 @@ use lib.Seq.{drop-cons, getD-take, length-take-le}
 use Rattle.lists.specs.Tab.{tab}
 use Rattle.model.specs.declared.EbpfSectionKind.{EbpfSectionKind as Kind}
 use Rattle.model.specs.declared.Function.{Function as FunctionRow}
-use Rattle.model.specs.declared.Head.{Head}
 use Rattle.model.specs.declared.SectionRecord.{SectionRecord}
 use Rattle.model.specs.declared.SymbolRecord.{SymbolRecord}
 use Rattle.model.specs.Bytes.{each}
 use Rattle.model.specs.Catalogue.{Function}
-use Rattle.model.specs.Deposit.{byteOrder}
 use Rattle.model.specs.Contents.{functionAt, programFunction}
 use Rattle.model.specs.Instruction.{instructions}
 use Rattle.model.specs.Lent.{functionName, functionCode, functionRow, placed, range, filled, zeroRow}
@@ -25,7 +23,8 @@ use Rattle.model.specs.SectionKind.{isKind, kindOf}
 use Rattle.model.specs.Symbols.{top}
 use Rattle.stream.specs.Stream.{length-bytes}
 use Rattle.insn.specs.Sanitized.{length-each-eight}
-use Rattle.records.specs.Records.{sectionAt, symbolAt, namesAt}
+use Rattle.object_view.specs.declared.View.{View}
+use Rattle.records.specs.View.{gapOf, sectionAt, symbolAt}
 use Rattle.plan.specs.Walk.{textFunctionOf}
 use Rattle.view.specs.View.{sectionFrom, symbolFrom, sectionIn, symbolIn}
 use Rattle.owner.specs.Owner.{homeOf}
@@ -47,40 +46,40 @@ each-cons : {A : Type 0} (p : A → List ℕ) (x : A) (xs : List A) → length (
 unfolding each
 each-cons p x xs = length-append (p x) (each p xs)
 
-module _ (d : List ℕ) (h : Head) where
+module _ (d t : List ℕ) (v : View) where
   -- the function of a symbol's number
   abbrev pub functionOf : ℕ → Function
-  functionOf = functionBy d 4 h
+  functionOf = functionBy d t v
 
   -- n rows are to be stored, whose names and code begin at a and c
   abbrev pub rowsFrom : ℕ → ℕ → ℕ → Rows
-  rowsFrom n a c = record { head = h; count = n; name = a; code = c }
+  rowsFrom n a c = record { view = v; count = n; name = a; code = c }
 
   -- ---- one row
 
   module _ (j : ℕ) where
     abbrev y : SymbolRecord
-    y = symbolAt d 4 h j
+    y = symbolAt d t v j
 
     abbrev s : SectionRecord
-    s = sectionAt d 4 (homeOf d 4 h y)
+    s = sectionAt d t v (homeOf d t v y)
 
     abbrev plain : Function
-    plain = functionAt (sectionFrom d 4 h s) (y .address) (offsetOf d h s y) (symbolFrom d 4 h y)
+    plain = functionAt (sectionFrom d t v s) (y .address) (offsetOf d t v s y) (symbolFrom d t v y)
 
     function-is : functionOf j ≡ plain
     unfolding programFunction textFunctionOf offsetOf sectionFrom symbolFrom
-    function-is = go (isKind Kind.Program (kindOf (sectionFrom d 4 h s)))
+    function-is = go (isKind Kind.Program (kindOf (sectionFrom d t v s)))
       where
         go : (b : Bool)
-            → cond b (programFunction (sectionFrom d 4 h s) (symbolFrom d 4 h y)) (textFunctionOf (byteOrder (h .order)) (tab (sectionIn d 4 h) (h .sections)) (symbolIn d 4 h) (h .symbols) (sectionFrom d 4 h s) j)
-            ≡ functionAt (sectionFrom d 4 h s) (y .address) (cond b (y .address) (y .address - s .address)) (symbolFrom d 4 h y)
+            → cond b (programFunction (sectionFrom d t v s) (symbolFrom d t v y)) (textFunctionOf (v .order) (tab (sectionIn d t v) (v .sections)) (symbolIn d t v) (v .symbols) (sectionFrom d t v s) j)
+            ≡ functionAt (sectionFrom d t v s) (y .address) (cond b (y .address) (y .address - s .address)) (symbolFrom d t v y)
         go true = refl
         go false = refl
 
     plain-name : length (functionName plain) ≡ y .name .length
     unfolding functionAt symbolFrom
-    plain-name = length-bytes d 4 (namesAt h + y .name .at) (y .name .length)
+    plain-name = length-bytes d (gapOf v) (v .at .names + y .name .at) (y .name .length)
 
     plain-code : length (functionCode plain) ≡ codeLength y
     unfolding functionAt symbolFrom
@@ -93,20 +92,20 @@ module _ (d : List ℕ) (h : Head) where
     code-length = ap (λ (f : Function). length (functionCode f)) function-is ∙ plain-code
 
     module _ (n a c : ℕ) where
-      plain-row : functionRow a c plain ≡ rowMade d j (rowsFrom n a c) .row
+      plain-row : functionRow a c plain ≡ rowMade d t j (rowsFrom n a c) .row
       unfolding functionRow rowMade functionAt sectionFrom symbolFrom
-      plain-row = λ k. record { section = s .index; address = y .address; offset = offsetOf d h s y; name = range a (plain-name k); code = range c (plain-code k) }
+      plain-row = λ k. record { section = s .index; address = y .address; offset = offsetOf d t v s y; name = range a (plain-name k); code = range c (plain-code k) }
 
-      row-is : rowMade d j (rowsFrom n a c) .row ≡ functionRow a c (functionOf j)
+      row-is : rowMade d t j (rowsFrom n a c) .row ≡ functionRow a c (functionOf j)
       row-is = sym (ap (functionRow a c) function-is ∙ plain-row)
 
       rest-is : a + length (functionName (functionOf j)) ≤ top → c + length (functionCode (functionOf j)) ≤ top
-          → rowMade d j (rowsFrom n a c) .rest ≡ rowsFrom n (a + length (functionName (functionOf j))) (c + length (functionCode (functionOf j)))
+          → rowMade d t j (rowsFrom n a c) .rest ≡ rowsFrom n (a + length (functionName (functionOf j))) (c + length (functionCode (functionOf j)))
       unfolding rowMade
       rest-is p q =
           let e : min (a + y .name .length) top ≡ a + length (functionName (functionOf j)) = under-top _ _ (ap (λ (m : ℕ). a + m) (sym name-length)) p in
           let f : min (c + codeLength y) top ≡ c + length (functionCode (functionOf j)) = under-top _ _ (ap (λ (m : ℕ). c + m) (sym code-length)) q in
-          λ k. record { head = h; count = n; name = e k; code = f k }
+          λ k. record { view = v; count = n; name = e k; code = f k }
 
   -- ---- all of them
 
@@ -121,13 +120,13 @@ module _ (d : List ℕ) (h : Head) where
     abbrev rowsAt : ℕ → ℕ → List Function → List FunctionRow
     rowsAt = placed functionName functionCode functionRow
 
-    past : (m i a c : ℕ) → n ≤ i → rowsMade d order i (rowsFrom n a c) m ≡ filled zeroRow m (rowsAt a c (map functionOf (from i)))
+    past : (m i a c : ℕ) → n ≤ i → rowsMade d t order i (rowsFrom n a c) m ≡ filled zeroRow m (rowsAt a c (map functionOf (from i)))
     unfolding placed
     past m i a c l =
         let g : length (take n order) ≤ i = rw long l in
         let e : from i ≡ [] = drop-of-length-le (take n order) g in
         let f : m - 0 ≡ m = omega arith in
-        rows-past d order i (rowsFrom n a c) m l ∙ rw (e, f)
+        rows-past d t order i (rowsFrom n a c) m l ∙ rw (e, f)
 
     filled-more : (m a c j : ℕ) (js : List ℕ)
         → functionRow a c (functionOf j) ∷ filled zeroRow m (rowsAt (a + length (functionName (functionOf j))) (c + length (functionCode (functionOf j))) (map functionOf js))
@@ -162,19 +161,19 @@ module _ (d : List ℕ) (h : Head) where
       ends-behind : Ends (suc i) a′ c′
       ends-behind = (omega (arith, part-of functionName, ends .0), omega (arith, part-of functionCode, ends .1))
 
-      next-stored : rowsMade d order (suc i) (rowsFrom n a′ c′) m ≡ filled zeroRow m (rowsAt a′ c′ (map functionOf (from (suc i))))
-          → rowsMade d order i (rowsFrom n a c) (suc m) ≡ filled zeroRow (suc m) (rowsAt a c (map functionOf (from i)))
+      next-stored : rowsMade d t order (suc i) (rowsFrom n a′ c′) m ≡ filled zeroRow m (rowsAt a′ c′ (map functionOf (from (suc i))))
+          → rowsMade d t order i (rowsFrom n a c) (suc m) ≡ filled zeroRow (suc m) (rowsAt a c (map functionOf (from i)))
       unfolding rowsMade
       next-stored e =
-          let made : madeOf d order i (rowsFrom n a c) ≡ rowMade d j (rowsFrom n a c) =
-          made-row d order i (rowsFrom n a c) (lt-ltb i n lt) (lt-ltb i (length order) (omega arith))
+          let made : madeOf d t order i (rowsFrom n a c) ≡ rowMade d t j (rowsFrom n a c) =
+          made-row d t order i (rowsFrom n a c) (lt-ltb i n lt) (lt-ltb i (length order) (omega arith))
           in
           rw (made, row-is j n a c, rest-is j n a c (omega (arith, part-of functionName, ends .0)) (omega (arith, part-of functionCode, ends .1)))
           (ap (λ (rs : List FunctionRow). functionRow a c (functionOf j) ∷ rs) e
           ∙ filled-more m a c j (from (suc i))
           ∙ ap (λ (js : List ℕ). filled zeroRow (suc m) (rowsAt a c (map functionOf js))) (sym cut))
 
-    stored-from : (m i a c : ℕ) → i ≤ n → n - i ≤ m → Ends i a c → rowsMade d order i (rowsFrom n a c) m ≡ filled zeroRow m (rowsAt a c (map functionOf (from i)))
+    stored-from : (m i a c : ℕ) → i ≤ n → n - i ≤ m → Ends i a c → rowsMade d t order i (rowsFrom n a c) m ≡ filled zeroRow m (rowsAt a c (map functionOf (from i)))
     stored-from zero i a c l room ends = past zero i a c (omega arith)
     stored-from (suc m) i a c l room ends =
         ⊎-elim (λ e. past (suc m) i a c (omega arith))
@@ -183,5 +182,5 @@ module _ (d : List ℕ) (h : Head) where
 
     -- the table that is stored is the catalogue's, where its names and code end below 2^64
     pub rows-are : (m a c : ℕ) → n ≤ m → a + length (each functionName (map functionOf (take n order))) < 2 ^ 64 → c + length (each functionCode (map functionOf (take n order))) < 2 ^ 64
-        → rowsMade d order 0 (rowsFrom n a c) m ≡ filled zeroRow m (placed functionName functionCode functionRow a c (map functionOf (take n order)))
+        → rowsMade d t order 0 (rowsFrom n a c) m ≡ filled zeroRow m (placed functionName functionCode functionRow a c (map functionOf (take n order)))
     rows-are m a c l p q = stored-from m 0 a c (omega arith) (omega arith) (omega arith, omega arith)

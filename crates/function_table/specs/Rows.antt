@@ -7,53 +7,54 @@ use lib.Dec.{ltb}
 use lib.ListN.{length, getD}
 use Rattle.model.specs.declared.EbpfSectionKind.{EbpfSectionKind as Kind}
 use Rattle.model.specs.declared.Function.{Function}
-use Rattle.model.specs.declared.Head.{Head}
 use Rattle.model.specs.declared.SectionRecord.{SectionRecord}
 use Rattle.model.specs.declared.SymbolRecord.{SymbolRecord}
 use Rattle.model.specs.Lent.{range, zeroRow}
 use Rattle.model.specs.SectionKind.{isKind, kindOf}
 use Rattle.model.specs.Symbols.{top}
-use Rattle.owner.specs.Owner.{Rise, homeOf}
-use Rattle.records.specs.Records.{sectionAt, symbolAt}
+use Rattle.object_view.specs.declared.View.{View}
+use Rattle.records.specs.View.{sectionAt, symbolAt}
+use Rattle.records.specs.Readable.{Readable}
+use Rattle.owner.specs.Owner.{homeOf}
 use Rattle.view.specs.View.{sectionFrom}
 use Rattle.function_table.specs.declared.Made.{Made}
 use Rattle.function_table.specs.declared.Rows.{Rows}
 
--- if any row is left to store, the indexes of the section records rise
-abbrev pub Risen : List ℕ → Rows → Type 0
-Risen d rows = 0 < rows .count → Rise d 4 (rows .head)
+-- if any row is left to store, the view is readable
+abbrev pub ReadableRows : List ℕ → List ℕ → Rows → Type 0
+ReadableRows d t rows = 0 < rows .count → Readable d t (rows .view)
 
 -- where a function begins in the data of its section: a program's at the symbol's address, another's at that less the section's
-unfoldable pub offsetOf : List ℕ → Head → SectionRecord → SymbolRecord → ℕ
-offsetOf d h s y = cond (isKind Kind.Program (kindOf (sectionFrom d 4 h s))) (y .address) (y .address - s .address)
+unfoldable pub offsetOf : List ℕ → List ℕ → View → SectionRecord → SymbolRecord → ℕ
+offsetOf d t v s y = cond (isKind Kind.Program (kindOf (sectionFrom d t v s))) (y .address) (y .address - s .address)
 
 -- by the section's kind
-pub offset-is : (d : List ℕ) (h : Head) (s : SectionRecord) (y : SymbolRecord) (k : Kind) (b : Bool)
-    → k ≡ kindOf (sectionFrom d 4 h s) → b ≡ isKind Kind.Program k → cond b (y .address) (y .address - s .address) ≡ offsetOf d h s y
+pub offset-is : (d t : List ℕ) (v : View) (s : SectionRecord) (y : SymbolRecord) (k : Kind) (b : Bool)
+    → k ≡ kindOf (sectionFrom d t v s) → b ≡ isKind Kind.Program k → cond b (y .address) (y .address - s .address) ≡ offsetOf d t v s y
 unfolding offsetOf
-offset-is d h s y k b e f = rw (f, e)
+offset-is d t v s y k b e f = rw (f, e)
 
 -- a function's code is whole instructions
 abbrev pub codeLength : SymbolRecord → ℕ
 codeLength y = y .size / 8 * 8
 
 -- the row of symbol record j, and what is left behind it
-unfoldable pub rowMade : List ℕ → ℕ → Rows → Made
-rowMade d j rows =
-    let y : SymbolRecord = symbolAt d 4 (rows .head) j in
-    let s : SectionRecord = sectionAt d 4 (homeOf d 4 (rows .head) y) in
+unfoldable pub rowMade : List ℕ → List ℕ → ℕ → Rows → Made
+rowMade d t j rows =
+    let y : SymbolRecord = symbolAt d t (rows .view) j in
+    let s : SectionRecord = sectionAt d t (rows .view) (homeOf d t (rows .view) y) in
     record {
       row =
           record {
             section = s .index;
             address = y .address;
-            offset = offsetOf d (rows .head) s y;
+            offset = offsetOf d t (rows .view) s y;
             name = range (rows .name) (y .name .length);
             code = range (rows .code) (codeLength y);
           };
       rest =
           record {
-            head = rows .head;
+            view = rows .view;
             count = rows .count;
             name = min (rows .name + y .name .length) top;
             code = min (rows .code + codeLength y) top;
@@ -61,30 +62,30 @@ rowMade d j rows =
     }
 
 -- by what was read: the symbol, its section and the lengths
-pub row-made : (d : List ℕ) (j : ℕ) (rows : Rows) (y : SymbolRecord) (i : ℕ) (s : SectionRecord) (o l n c : ℕ)
-    → y ≡ symbolAt d 4 (rows .head) j → i ≡ homeOf d 4 (rows .head) y → s ≡ sectionAt d 4 i → o ≡ offsetOf d (rows .head) s y
+pub row-made : (d t : List ℕ) (j : ℕ) (rows : Rows) (y : SymbolRecord) (i : ℕ) (s : SectionRecord) (o l n c : ℕ)
+    → y ≡ symbolAt d t (rows .view) j → i ≡ homeOf d t (rows .view) y → s ≡ sectionAt d t (rows .view) i → o ≡ offsetOf d t (rows .view) s y
     → l ≡ y .name .length → n ≡ min (rows .name + l) top → c ≡ min (rows .code + codeLength y) top
     → record {
       row = record { section = s .index; address = y .address; offset = o; name = range (rows .name) l; code = range (rows .code) (codeLength y) };
-      rest = record { head = rows .head; count = rows .count; name = n; code = c };
-    } ≡ rowMade d j rows
+      rest = record { view = rows .view; count = rows .count; name = n; code = c };
+    } ≡ rowMade d t j rows
 unfolding rowMade
-row-made d j rows y i s o l n c e f g p q u v = rw (v, u, q, p, g, f, e)
+row-made d t j rows y i s o l n c e f g p q u w = rw (w, u, q, p, g, f, e)
 
 -- row i of the numbers, and what is left; past the last number a row of zeros
-unfoldable pub madeOf : List ℕ → List ℕ → ℕ → Rows → Made
-madeOf d order i rows = cond (ltb i (rows .count) && ltb i (length order)) (rowMade d (getD order i 0) rows) (record { row = zeroRow; rest = rows })
+unfoldable pub madeOf : List ℕ → List ℕ → List ℕ → ℕ → Rows → Made
+madeOf d t order i rows = cond (ltb i (rows .count) && ltb i (length order)) (rowMade d t (getD order i 0) rows) (record { row = zeroRow; rest = rows })
 
 -- the rows from row i on, n of them
-unfoldable pub rowsMade : List ℕ → List ℕ → ℕ → Rows → ℕ → List Function
-rowsMade d order i rows zero = []
-rowsMade d order i rows (suc n) = madeOf d order i rows .row ∷ rowsMade d order (suc i) (madeOf d order i rows .rest) n
+unfoldable pub rowsMade : List ℕ → List ℕ → List ℕ → ℕ → Rows → ℕ → List Function
+rowsMade d t order i rows zero = []
+rowsMade d t order i rows (suc n) = madeOf d t order i rows .row ∷ rowsMade d t order (suc i) (madeOf d t order i rows .rest) n
 
-module _ (d order : List ℕ) (i : ℕ) (rows : Rows) where
-  pub made-row : ltb i (rows .count) ≡ true → ltb i (length order) ≡ true → madeOf d order i rows ≡ rowMade d (getD order i 0) rows
+module _ (d t order : List ℕ) (i : ℕ) (rows : Rows) where
+  pub made-row : ltb i (rows .count) ≡ true → ltb i (length order) ≡ true → madeOf d t order i rows ≡ rowMade d t (getD order i 0) rows
   unfolding madeOf
   made-row e f = rw (e, f)
 
-  pub made-none : (ltb i (rows .count) && ltb i (length order)) ≡ false → madeOf d order i rows ≡ record { row = zeroRow; rest = rows }
+  pub made-none : (ltb i (rows .count) && ltb i (length order)) ≡ false → madeOf d t order i rows ≡ record { row = zeroRow; rest = rows }
   unfolding madeOf
   made-none e = rw e

@@ -14,53 +14,53 @@ use Rattle.model.specs.declared.Function.{Function}
 use Rattle.model.specs.Lent.{zeroRow}
 use Rattle.function_table.specs.declared.Made.{Made}
 use Rattle.function_table.specs.declared.Rows.{Rows}
-use Rattle.function_table.specs.Rows.{Risen, rowMade, madeOf, rowsMade, made-none}
+use Rattle.function_table.specs.Rows.{ReadableRows, rowMade, madeOf, rowsMade, made-none}
 
-module _ (d order : List ℕ) where
+module _ (d t order : List ℕ) where
   -- what is left behind k rows from row i on
   unfoldable pub restMade : ℕ → Rows → ℕ → Rows
   restMade i rows zero = rows
-  restMade i rows (suc k) = restMade (suc i) (madeOf d order i rows .rest) k
+  restMade i rows (suc k) = restMade (suc i) (madeOf d t order i rows .rest) k
 
-  pub length-made : (i : ℕ) (rows : Rows) (n : ℕ) → length (rowsMade d order i rows n) ≡ n
+  pub length-made : (i : ℕ) (rows : Rows) (n : ℕ) → length (rowsMade d t order i rows n) ≡ n
   unfolding rowsMade
   length-made i rows zero = refl
-  length-made i rows (suc n) = ap suc (length-made (suc i) (madeOf d order i rows .rest) n)
+  length-made i rows (suc n) = ap suc (length-made (suc i) (madeOf d t order i rows .rest) n)
 
   moved : (i k : ℕ) → suc i + k ≡ i + suc k
   moved i k = suc-add i k ∙ sym (add-suc i k)
 
   rows-last : (i : ℕ) (rows : Rows) (k : ℕ)
-      → rowsMade d order i rows (suc k) ≡ rowsMade d order i rows k ++ (madeOf d order (i + k) (restMade i rows k) .row ∷ [])
+      → rowsMade d t order i rows (suc k) ≡ rowsMade d t order i rows k ++ (madeOf d t order (i + k) (restMade i rows k) .row ∷ [])
   unfolding rowsMade restMade
-  rows-last i rows zero = ap (λ (j : ℕ). madeOf d order j rows .row ∷ []) (sym (add-zero i))
+  rows-last i rows zero = ap (λ (j : ℕ). madeOf d t order j rows .row ∷ []) (sym (add-zero i))
   rows-last i rows (suc k) =
-      ap (λ (l : List Function). madeOf d order i rows .row ∷ l) (rows-last (suc i) (madeOf d order i rows .rest) k ∙ rw (moved i k))
+      ap (λ (l : List Function). madeOf d t order i rows .row ∷ l) (rows-last (suc i) (madeOf d t order i rows .rest) k ∙ rw (moved i k))
 
-  rest-last : (i : ℕ) (rows : Rows) (k : ℕ) → restMade i rows (suc k) ≡ madeOf d order (i + k) (restMade i rows k) .rest
+  rest-last : (i : ℕ) (rows : Rows) (k : ℕ) → restMade i rows (suc k) ≡ madeOf d t order (i + k) (restMade i rows k) .rest
   unfolding restMade
-  rest-last i rows zero = ap (λ (j : ℕ). madeOf d order j rows .rest) (sym (add-zero i))
-  rest-last i rows (suc k) = rest-last (suc i) (madeOf d order i rows .rest) k ∙ rw (moved i k)
+  rest-last i rows zero = ap (λ (j : ℕ). madeOf d t order j rows .rest) (sym (add-zero i))
+  rest-last i rows (suc k) = rest-last (suc i) (madeOf d t order i rows .rest) k ∙ rw (moved i k)
 
-  risen-next : (i : ℕ) (rows : Rows) → Risen d rows → Risen d (madeOf d order i rows .rest)
+  readable-next : (i : ℕ) (rows : Rows) → ReadableRows d t rows → ReadableRows d t (madeOf d t order i rows .rest)
   unfolding madeOf rowMade
-  risen-next i rows h = go (ltb i (rows .count) && ltb i (length order))
+  readable-next i rows h = go (ltb i (rows .count) && ltb i (length order))
     where
-      go : (b : Bool) → Risen d (cond b (rowMade d (getD order i 0) rows) (record { row = zeroRow; rest = rows }) .rest)
+      go : (b : Bool) → ReadableRows d t (cond b (rowMade d t (getD order i 0) rows) (record { row = zeroRow; rest = rows }) .rest)
       go true = h
       go false = h
 
-  pub risen-rest : (i : ℕ) (rows : Rows) (k : ℕ) → Risen d rows → Risen d (restMade i rows k)
+  pub readable-rest : (i : ℕ) (rows : Rows) (k : ℕ) → ReadableRows d t rows → ReadableRows d t (restMade i rows k)
   unfolding restMade
-  risen-rest i rows zero h = h
-  risen-rest i rows (suc k) h = risen-rest (suc i) (madeOf d order i rows .rest) k (risen-next i rows h)
+  readable-rest i rows zero h = h
+  readable-rest i rows (suc k) h = readable-rest (suc i) (madeOf d t order i rows .rest) k (readable-next i rows h)
 
   -- ---- a loop that stores the rows from the first on
 
   module _ (rows : Rows) where
     -- row k, and what is left behind it
     abbrev pub madeAt : ℕ → Made
-    madeAt k = madeOf d order k (restMade 0 rows k)
+    madeAt k = madeOf d t order k (restMade 0 rows k)
 
     pub rest-none : restMade 0 rows 0 ≡ rows
     unfolding restMade
@@ -69,39 +69,39 @@ module _ (d order : List ℕ) where
     pub rest-next : (k : ℕ) → madeAt k .rest ≡ restMade 0 rows (k + 1)
     rest-next k = rw (add-one k, rest-last 0 rows k, zero-add k)
 
-    rows-next : (k : ℕ) → rowsMade d order 0 rows (k + 1) ≡ rowsMade d order 0 rows k ++ (madeAt k .row ∷ [])
+    rows-next : (k : ℕ) → rowsMade d t order 0 rows (k + 1) ≡ rowsMade d t order 0 rows k ++ (madeAt k .row ∷ [])
     rows-next k = rw (add-one k, rows-last 0 rows k, zero-add k)
 
-    module _ (t : List Function) where
+    module _ (fs : List Function) where
       -- the table with its first k rows stored
       abbrev pub stored : ℕ → List Function
-      stored k = rowsMade d order 0 rows k ++ drop k t
+      stored k = rowsMade d t order 0 rows k ++ drop k fs
 
-      pub stored-none : stored 0 ≡ t
+      pub stored-none : stored 0 ≡ fs
       unfolding rowsMade
       stored-none = refl
 
-      pub length-stored : (k : ℕ) → k ≤ length t → length (stored k) ≡ length t
+      pub length-stored : (k : ℕ) → k ≤ length fs → length (stored k) ≡ length fs
       length-stored k h = rw (length-append, length-made 0 rows k, length-drop) (omega arith)
 
-      pub stored-next : (k : ℕ) → k < length t → set (stored k) k (madeAt k .row) ≡ stored (k + 1)
+      pub stored-next : (k : ℕ) → k < length fs → set (stored k) k (madeAt k .row) ≡ stored (k + 1)
       stored-next k h =
-          ap (λ (r : List Function). set (rowsMade d order 0 rows k ++ r) k (madeAt k .row)) (drop-cons t k zeroRow h)
-          ∙ set-at (rowsMade d order 0 rows k) (getD t k zeroRow) (drop (suc k) t) (madeAt k .row) k (length-made 0 rows k)
+          ap (λ (r : List Function). set (rowsMade d t order 0 rows k ++ r) k (madeAt k .row)) (drop-cons fs k zeroRow h)
+          ∙ set-at (rowsMade d t order 0 rows k) (getD fs k zeroRow) (drop (suc k) fs) (madeAt k .row) k (length-made 0 rows k)
           ∙ rw (rows-next k, append-assoc, add-one)
 
-      pub stored-all : stored (length t) ≡ rowsMade d order 0 rows (length t)
-      stored-all = rw (drop-length t, append-nil)
+      pub stored-all : stored (length fs) ≡ rowsMade d t order 0 rows (length fs)
+      stored-all = rw (drop-length fs, append-nil)
 
   -- ---- no row is left to store
 
-  pub rows-past : (i : ℕ) (rows : Rows) (n : ℕ) → rows .count ≤ i → rowsMade d order i rows n ≡ replicate n zeroRow
+  pub rows-past : (i : ℕ) (rows : Rows) (n : ℕ) → rows .count ≤ i → rowsMade d t order i rows n ≡ replicate n zeroRow
   unfolding rowsMade
   rows-past i rows zero h = refl
   rows-past i rows (suc n) h =
       let b : ltb i (rows .count) ≡ false = le-ltb i (rows .count) h in
-      let m : madeOf d order i rows ≡ record { row = zeroRow; rest = rows } = made-none d order i rows (rw b) in
+      let m : madeOf d t order i rows ≡ record { row = zeroRow; rest = rows } = made-none d t order i rows (rw b) in
       rw (m, rows-past (suc i) rows n (omega arith))
 
-  pub rows-zero : (rows : Rows) (n : ℕ) → rows .count ≡ 0 → rowsMade d order 0 rows n ≡ replicate n zeroRow
+  pub rows-zero : (rows : Rows) (n : ℕ) → rows .count ≡ 0 → rowsMade d t order 0 rows n ≡ replicate n zeroRow
   rows-zero rows n e = rows-past 0 rows n (omega arith)

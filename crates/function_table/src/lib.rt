@@ -7,17 +7,17 @@ ghost use Rattle.model.specs.declared.EbpfSectionKind.{EbpfSectionKind as Kind}
 ghost use Rattle.model.specs.Lent.{zeroRow};
 ghost use Rattle.model.specs.SectionKind.{isKind};
 ghost use Rattle.model.specs.Symbols.{top};
-ghost use Rattle.owner.specs.Owner.{Rise};
-ghost use Rattle.function_table.specs.Rows.{Risen, offsetOf, rowMade, madeOf, rowsMade};
+ghost use Rattle.records.specs.Readable.{Readable};
+ghost use Rattle.function_table.specs.Rows.{ReadableRows, offsetOf, rowMade, madeOf, rowsMade};
 ghost use Rattle.orders.specs.Compare.{ordering};
 ghost use Rattle.function_table.specs.Search.{rowKey, middleOf, begun, narrowed, foundIn};
 use model::EbpfSectionKind;
 use model::Function;
-use model::Head;
 use model::Range;
 use model::SectionIndex;
 use model::SectionRecord;
 use model::SymbolRecord;
+use object_view::View;
 use orders::Ordering;
 use owner::home;
 use records::section;
@@ -27,7 +27,7 @@ use view::kind_of;
 
 // Which rows are left to store: those of the first `count` numbers, and where the next name and the next code lie.
 pub struct Rows {
-    pub head: Head,
+    pub view: View,
     pub count: usize,
     pub name: u64,
     pub code: u64,
@@ -65,10 +65,10 @@ fn is_program(kind: EbpfSectionKind) -> bool
 }
 
 // Where a function begins in the data of its section.
-fn offset(d: &[u8], h: Head, s: SectionRecord, y: SymbolRecord) -> u64
-    ensures { λ r. ⌜ r ≡ offsetOf (now (d .entry)) h s y ⌝ }
+fn offset(d: &[u8], t: &[u32], v: View, s: SectionRecord, y: SymbolRecord) -> u64
+    ensures { λ r. ⌜ r ≡ offsetOf (now (d .entry)) (now (t .entry)) v s y ⌝ }
 {
-    if is_program(kind_of(d, 4, h, s)) {
+    if is_program(kind_of(d, t, v, s)) {
         y.address
     } else {
         difference(y.address, s.address)
@@ -76,13 +76,13 @@ fn offset(d: &[u8], h: Head, s: SectionRecord, y: SymbolRecord) -> u64
 }
 
 // The row of symbol record j.
-fn row(d: &[u8], j: u32, rows: Rows) -> Made
-    requires { ⌜ Rise (now d) 4 (rows .head) ⌝ }
-    ensures { λ r. ⌜ r ≡ rowMade (now (d .entry)) j rows ⌝ }
+fn row(d: &[u8], t: &[u32], j: u32, rows: Rows) -> Made
+    requires { ⌜ Readable (now d) (now t) (rows .view) ⌝ }
+    ensures { λ r. ⌜ r ≡ rowMade (now (d .entry)) (now (t .entry)) j rows ⌝ }
 {
-    let h = rows.head;
-    let y = symbol(d, 4, h, j);
-    let s = section(d, 4, home(d, 4, h, y));
+    let v = rows.view;
+    let y = symbol(d, t, v, j);
+    let s = section(d, t, v, home(d, t, v, y));
     let index = s.index;
     let name = wide64(y.name.length);
     let code = y.size / 8 * 8;
@@ -90,7 +90,7 @@ fn row(d: &[u8], j: u32, rows: Rows) -> Made
         row: Function {
             section: index,
             address: y.address,
-            offset: offset(d, h, s, y),
+            offset: offset(d, t, v, s, y),
             name: Range {
                 at: rows.name,
                 length: name,
@@ -101,7 +101,7 @@ fn row(d: &[u8], j: u32, rows: Rows) -> Made
             },
         },
         rest: Rows {
-            head: h,
+            view: v,
             count: rows.count,
             name: capped_sum(rows.name, name),
             code: capped_sum(rows.code, code),
@@ -122,12 +122,12 @@ fn zero_row() -> Function
 }
 
 // Row i, and what is left behind it; past the last number a row of zeros.
-pub fn next_row(d: &[u8], order: &[u32], i: usize, rows: Rows) -> Made
-    requires { ⌜ Risen (now d) rows ⌝ }
-    ensures { λ r. ⌜ r ≡ madeOf (now (d .entry)) (now (order .entry)) i rows ⌝ }
+pub fn next_row(d: &[u8], t: &[u32], order: &[u32], i: usize, rows: Rows) -> Made
+    requires { ⌜ ReadableRows (now d) (now t) rows ⌝ }
+    ensures { λ r. ⌜ r ≡ madeOf (now (d .entry)) (now (t .entry)) (now (order .entry)) i rows ⌝ }
 {
     if i < rows.count && i < order.len() {
-        row(d, order[i], rows)
+        row(d, t, order[i], rows)
     } else {
         Made {
             row: zero_row(),
@@ -136,15 +136,15 @@ pub fn next_row(d: &[u8], order: &[u32], i: usize, rows: Rows) -> Made
     }
 }
 
-pub fn fill(functions: &mut [Function], d: &[u8], order: &[u32], rows: Rows)
-    requires { ⌜ Risen (now d) rows ⌝ }
-    ensures { λ _. ⌜ now (functions .exit) ≡ rowsMade (now (d .entry)) (now (order .entry)) 0 rows (length (now (functions .entry))) ⌝ }
+pub fn fill(functions: &mut [Function], d: &[u8], t: &[u32], order: &[u32], rows: Rows)
+    requires { ⌜ ReadableRows (now d) (now t) rows ⌝ }
+    ensures { λ _. ⌜ now (functions .exit) ≡ rowsMade (now (d .entry)) (now (t .entry)) (now (order .entry)) 0 rows (length (now (functions .entry))) ⌝ }
 {
     let n = functions.len();
     let mut at = rows;
     let mut i = 0;
     while i < n {
-        let m = next_row(d, order, i, at);
+        let m = next_row(d, t, order, i, at);
         functions[i] = m.row;
         at = m.rest;
         i += 1;

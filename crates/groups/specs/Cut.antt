@@ -10,28 +10,28 @@ use borrow.Author.Tests.{eqb-true}
 use lib.ListN.{length, getD}
 use lib.Seq.{slice}
 use Rattle.lists.specs.Slice.{slice-more, slice-none}
-use Rattle.model.specs.declared.Head.{Head}
+use Rattle.object_view.specs.declared.View.{View}
 use Rattle.model.specs.declared.SectionIndex.{SectionIndex}
 use Rattle.model.specs.declared.SymbolRecord.{SymbolRecord}
 use Rattle.model.specs.Bytes.{maybe}
-use Rattle.records.specs.Records.{symbolAt}
+use Rattle.records.specs.View.{symbolAt}
 use Rattle.plan.specs.SectionsPrograms.{All}
 use Rattle.plan.specs.FunctionsMaps.{all-append}
 use Rattle.plan.specs.ByNumber.{rawSection}
 use Rattle.view.specs.View.{symbolFrom}
 
 -- the number of a symbol's section as its record has it
-pub raw-is : (d : List ℕ) (gap : ℕ) (h : Head) (r : SymbolRecord) → rawSection (symbolFrom d gap h r) ≡ r .section .0
+pub raw-is : (d t : List ℕ) (v : View) (r : SymbolRecord) → rawSection (symbolFrom d t v r) ≡ r .section .0
 unfolding symbolFrom
-raw-is d gap h r = go (eqb (r .section .0) 4294967295) refl
+raw-is d t v r = go (eqb (r .section .0) 4294967295) refl
   where
     go : (b : Bool) → eqb (r .section .0) 4294967295 ≡ b → maybe (cond b none (some (r .section))) 4294967295 (λ (k : SectionIndex). k .0) ≡ r .section .0
     go true e = sym (eqb-true (r .section .0) 4294967295 e)
     go false e = refl
 
-module _ (d : List ℕ) (gap : ℕ) (h : Head) (l : List ℕ) (from k : ℕ) where
+module _ (d t : List ℕ) (v : View) (l : List ℕ) (from k : ℕ) where
   abbrev pub raw : ℕ → ℕ
-  raw j = symbolAt d gap h j .section .0
+  raw j = symbolAt d t v j .section .0
 
   -- those from `from` on are below k, up to r
   pub record Start (r : ℕ) : Type 0 where

@@ -8,11 +8,11 @@ use borrow.Author.Tests.{eqb-true, eq-eqb, ne-eqb, ltb-true, ltb-false}
 use lib.Dec.{eqb, ltb}
 use lib.ListN.{length, getD, take, drop}
 use lib.Seq.{slice}
-use Rattle.model.specs.declared.Head.{Head}
+use Rattle.object_view.specs.declared.View.{View}
 use Rattle.lists.specs.Tests.{true-not-false}
 use Rattle.model.specs.Bytes.{keep, before}
 use Rattle.orders.specs.Sort.{byKey, key-order, sorted, Ordered, sorted-ordered}
-use Rattle.records.specs.Records.{symbolAt}
+use Rattle.records.specs.View.{symbolAt}
 use Rattle.plan.specs.Numbers.{upTo}
 use Rattle.plan.specs.ByNumber.{rawSection}
 use Rattle.plan.specs.SectionsPrograms.{All}
@@ -23,21 +23,21 @@ use Rattle.keys.specs.declared.By.{By}
 use Rattle.keys.specs.Keys.{keyOf}
 use Rattle.groups.specs.Cut.{raw-is}
 
-module _ (d : List ℕ) (gap : ℕ) (h : Head) where
-  address-is : (j : ℕ) → symbolAt d gap h j .address ≡ symbolIn d gap h j .address
+module _ (d t : List ℕ) (v : View) where
+  address-is : (j : ℕ) → symbolAt d t v j .address ≡ symbolIn d t v j .address
   unfolding symbolFrom
   address-is j = refl
 
-  section-keys : keyOf By.SymbolSection d gap h ≡ (λ j. rawSection (symbolIn d gap h j) ∷ [])
+  section-keys : keyOf By.SymbolSection d t v ≡ (λ j. rawSection (symbolIn d t v j) ∷ [])
   unfolding keyOf
-  section-keys = λ k j. sym (raw-is d gap h (symbolAt d gap h j)) k ∷ []
+  section-keys = λ k j. sym (raw-is d t v (symbolAt d t v j)) k ∷ []
 
-  pub place-keys : keyOf By.SymbolAddress d gap h ≡ (λ j. rawSection (symbolIn d gap h j) ∷ symbolIn d gap h j .address ∷ [])
+  pub place-keys : keyOf By.SymbolAddress d t v ≡ (λ j. rawSection (symbolIn d t v j) ∷ symbolIn d t v j .address ∷ [])
   unfolding keyOf
-  place-keys = λ k j. sym (raw-is d gap h (symbolAt d gap h j)) k ∷ address-is j k ∷ []
+  place-keys = λ k j. sym (raw-is d t v (symbolAt d t v j)) k ∷ address-is j k ∷ []
 
   -- all numbers, counted up and sorted
-  pub section-order : (l m : List ℕ) → l ≡ upTo (h .symbols) → m ≡ sorted (byKey (keyOf By.SymbolSection d gap h)) l → m ≡ sorted (bySection (symbolIn d gap h)) (upTo (h .symbols))
+  pub section-order : (l m : List ℕ) → l ≡ upTo (v .symbols) → m ≡ sorted (byKey (keyOf By.SymbolSection d t v)) l → m ≡ sorted (bySection (symbolIn d t v)) (upTo (v .symbols))
   section-order l m p q = q ∙ (λ k. sorted (byKey (section-keys k)) (p k))
 
 -- ---- numbers that climb
@@ -99,13 +99,13 @@ join-take P (suc m) (suc n) [] h a b = tt
 join-take P (suc m) (suc n) (x ∷ l) h a b = (a .0, join-take P m n l (omega arith) (a .1) b)
 
 -- all symbols sorted by section
-pub section-climbs : (d : List ℕ) (gap : ℕ) (h : Head) (l : List ℕ) → l ≡ sorted (bySection (symbolIn d gap h)) (upTo (h .symbols)) → Climbs (λ j. symbolAt d gap h j .section .0) 0 l
-section-climbs d gap h l e =
-    let le = bySection (symbolIn d gap h) in
-    let o : Ordered le l = rw e (sorted-ordered le (key-order (λ j. rawSection (symbolIn d gap h j) ∷ [])) (upTo (h .symbols))) in
-    ordered-climbs (λ j. symbolAt d gap h j .section .0) le
-    (λ a b q. rw (raw-is d gap h (symbolAt d gap h a), raw-is d gap h (symbolAt d gap h b)) at (number-le (rawSection (symbolIn d gap h a)) (rawSection (symbolIn d gap h b)) q))
-    0 l (first-from-0 (λ j. symbolAt d gap h j .section .0) l) o
+pub section-climbs : (d t : List ℕ) (v : View) (l : List ℕ) → l ≡ sorted (bySection (symbolIn d t v)) (upTo (v .symbols)) → Climbs (λ j. symbolAt d t v j .section .0) 0 l
+section-climbs d t v l e =
+    let le = bySection (symbolIn d t v) in
+    let o : Ordered le l = rw e (sorted-ordered le (key-order (λ j. rawSection (symbolIn d t v j) ∷ [])) (upTo (v .symbols))) in
+    ordered-climbs (λ j. symbolAt d t v j .section .0) le
+    (λ a b q. rw (raw-is d t v (symbolAt d t v a), raw-is d t v (symbolAt d t v b)) at (number-le (rawSection (symbolIn d t v a)) (rawSection (symbolIn d t v b)) q))
+    0 l (first-from-0 (λ j. symbolAt d t v j .section .0) l) o
 
 -- up to a place where no group stands
 pub none-passed : (key : ℕ → ℕ) (l : List ℕ) (k k₂ from lo : ℕ) → k ≤ k₂ → from ≤ lo → All (λ j. key j < k) (take from l) → All (λ j. key j < k) (slice from lo l)

@@ -8,24 +8,24 @@ ghost use Rattle.orders.specs.Sort.{sorted};
 ghost use Rattle.view.specs.View.{symbolIn};
 ghost use Rattle.groups.specs.Cut.{Start, End};
 use keys::By;
-use model::Head;
+use object_view::View;
 
-pub fn by_section(d: &[u8], gap: usize, h: Head, order: &mut [u32], tmp: &mut [u32])
-    requires { ⌜ (gap ≤ 4) × (h .symbols ≤ 65536) × (length (now order) ≡ h .symbols) × (length (now tmp) ≡ h .symbols) ⌝ }
-    ensures { λ r. ⌜ now (order .exit) ≡ sorted (bySection (symbolIn (now (d .entry)) gap h)) (upTo (h .symbols)) ⌝ }
+pub fn by_section(d: &[u8], t: &[u32], v: View, order: &mut [u32], tmp: &mut [u32])
+    requires { ⌜ (v .symbols ≤ 65536) × (length (now order) ≡ v .symbols) × (length (now tmp) ≡ v .symbols) ⌝ }
+    ensures { λ r. ⌜ now (order .exit) ≡ sorted (bySection (symbolIn (now (d .entry)) (now (t .entry)) v)) (upTo (v .symbols)) ⌝ }
 {
     sort::count_up(order);
-    sort::sort(d, gap, h, By::SymbolSection, order, tmp);
+    sort::sort(d, t, v, By::SymbolSection, order, tmp);
 }
 
 // Past the symbols of sections below k.
-pub fn group_start(d: &[u8], gap: usize, h: Head, order: &[u32], from: usize, k: u32) -> usize
-    requires { ⌜ (gap ≤ 4) × (from ≤ length (now order)) ⌝ }
-    ensures { λ r. ⌜ Start (now (d .entry)) gap h (now (order .entry)) from k r ⌝ }
+pub fn group_start(d: &[u8], t: &[u32], v: View, order: &[u32], from: usize, k: u32) -> usize
+    requires { ⌜ (from ≤ length (now order)) ⌝ }
+    ensures { λ r. ⌜ Start (now (d .entry)) (now (t .entry)) v (now (order .entry)) from k r ⌝ }
 {
     let mut at = from;
     while at < order.len() {
-        if keys::symbol_section(d, gap, h, order[at]).0 >= k {
+        if records::symbol_section(d, t, v, order[at]).0 >= k {
             return at;
         }
         at += 1;
@@ -34,13 +34,13 @@ pub fn group_start(d: &[u8], gap: usize, h: Head, order: &[u32], from: usize, k:
 }
 
 // Past the symbols of section k.
-pub fn group_end(d: &[u8], gap: usize, h: Head, order: &[u32], from: usize, k: u32) -> usize
-    requires { ⌜ (gap ≤ 4) × (from ≤ length (now order)) ⌝ }
-    ensures { λ r. ⌜ End (now (d .entry)) gap h (now (order .entry)) from k r ⌝ }
+pub fn group_end(d: &[u8], t: &[u32], v: View, order: &[u32], from: usize, k: u32) -> usize
+    requires { ⌜ (from ≤ length (now order)) ⌝ }
+    ensures { λ r. ⌜ End (now (d .entry)) (now (t .entry)) v (now (order .entry)) from k r ⌝ }
 {
     let mut at = from;
     while at < order.len() {
-        if keys::symbol_section(d, gap, h, order[at]).0 != k {
+        if records::symbol_section(d, t, v, order[at]).0 != k {
             return at;
         }
         at += 1;

@@ -7,14 +7,14 @@ ghost use Rattle.model.specs.Lent.{filled, imageOf};
 ghost use Rattle.model.specs.Refusals.{objectRefusal};
 ghost use Rattle.view.specs.View.{objectIn};
 ghost use Rattle.catalogue.specs.Numbers.{sectionNumbers, programNumbers, mapNumbers};
-ghost use Rattle.accepted.specs.Readable.{Readable};
+ghost use Rattle.records.specs.Readable.{Readable};
 ghost use Rattle.bytes.specs.Held.{At};
 ghost use Rattle.bytes.specs.Parts.{catalogue};
 ghost use Rattle.image.specs.Filled.{clearedFrom};
 use bytes::Places;
 use lists::zero64;
 use map_rows::put_map_rows;
-use model::Head;
+use object_view::View;
 use program_rows::put_program_rows;
 use section_rows::put_section_rows;
 
@@ -28,48 +28,48 @@ pub fn clear_from(t: &mut [u64], n: usize)
 
 pub fn fill_sections(
     d: &[u8],
-    gap: usize,
-    h: Head,
+    t: &[u32],
+    v: View,
     order: &[u32],
     n: usize,
     places: Places,
     out: &mut [u64],
 )
-    requires { ⌜ (gap ≤ 4) × (n ≤ length (now order)) × (n ≤ 69632) × (take n (now order) ≡ sectionNumbers (now d) gap h) × At (catalogue (now d) gap h) places × (n * 4 ≤ length (now out)) ⌝ }
-    ensures { λ r. ⌜ now (out .exit) ≡ filled 0 (length (now (out .entry))) (imageOf (catalogue (now (d .entry)) gap h) .sections) ⌝ }
+    requires { ⌜ (n ≤ length (now order)) × (n ≤ 69632) × (take n (now order) ≡ sectionNumbers (now d) (now t) v) × At (catalogue (now d) (now t) v) places × (n * 4 ≤ length (now out)) ⌝ }
+    ensures { λ r. ⌜ now (out .exit) ≡ filled 0 (length (now (out .entry))) (imageOf (catalogue (now (d .entry)) (now (t .entry)) v) .sections) ⌝ }
 {
-    put_section_rows(d, gap, order, n, places.sections, out);
+    put_section_rows(d, t, v, order, n, places.sections, out);
     clear_from(out, n * 4);
 }
 
 pub fn fill_programs(
     d: &[u8],
-    gap: usize,
-    h: Head,
+    t: &[u32],
+    v: View,
     order: &[u32],
     n: usize,
     places: Places,
     out: &mut [u64],
 )
-    requires { ⌜ Readable (now d) gap h × (objectRefusal (objectIn (now d) gap h) ≡ none) × (n ≤ length (now order)) × (n ≤ 69632) × (take n (now order) ≡ programNumbers (now d) gap h) × At (catalogue (now d) gap h) places × (n * 7 ≤ length (now out)) ⌝ }
-    ensures { λ r. ⌜ now (out .exit) ≡ filled 0 (length (now (out .entry))) (imageOf (catalogue (now (d .entry)) gap h) .programs) ⌝ }
+    requires { ⌜ Readable (now d) (now t) v × (objectRefusal (objectIn (now d) (now t) v) ≡ none) × (n ≤ length (now order)) × (n ≤ 69632) × (take n (now order) ≡ programNumbers (now d) (now t) v) × At (catalogue (now d) (now t) v) places × (n * 7 ≤ length (now out)) ⌝ }
+    ensures { λ r. ⌜ now (out .exit) ≡ filled 0 (length (now (out .entry))) (imageOf (catalogue (now (d .entry)) (now (t .entry)) v) .programs) ⌝ }
 {
-    put_program_rows(d, gap, h, order, n, places.programs, out);
+    put_program_rows(d, t, v, order, n, places.programs, out);
     clear_from(out, n * 7);
 }
 
 pub fn fill_maps(
     d: &[u8],
-    gap: usize,
-    h: Head,
+    t: &[u32],
+    v: View,
     order: &[u32],
     n: usize,
     places: Places,
     out: &mut [u64],
 )
-    requires { ⌜ Readable (now d) gap h × (objectRefusal (objectIn (now d) gap h) ≡ none) × (n ≤ length (now order)) × (n ≤ 69632) × (take n (now order) ≡ mapNumbers (now d) gap h) × At (catalogue (now d) gap h) places × (n * 27 ≤ length (now out)) ⌝ }
-    ensures { λ r. ⌜ now (out .exit) ≡ filled 0 (length (now (out .entry))) (imageOf (catalogue (now (d .entry)) gap h) .maps) ⌝ }
+    requires { ⌜ Readable (now d) (now t) v × (objectRefusal (objectIn (now d) (now t) v) ≡ none) × (n ≤ length (now order)) × (n ≤ 69632) × (take n (now order) ≡ mapNumbers (now d) (now t) v) × At (catalogue (now d) (now t) v) places × (n * 27 ≤ length (now out)) ⌝ }
+    ensures { λ r. ⌜ now (out .exit) ≡ filled 0 (length (now (out .entry))) (imageOf (catalogue (now (d .entry)) (now (t .entry)) v) .maps) ⌝ }
 {
-    put_map_rows(d, gap, h, order, n, places.maps, places.own, out);
+    put_map_rows(d, t, v, order, n, places.maps, places.own, out);
     clear_from(out, n * 27);
 }

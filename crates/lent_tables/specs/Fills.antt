@@ -5,11 +5,10 @@ use mathlib.Core.List.{List, _++_}
 use mathlib.Core.Option.{none}
 use Prim.Native.Nat.{ℕ, _*_, _^_, _<_, _≤_}
 use lib.ListN.{length, take, drop, replicate}
-use Rattle.model.specs.declared.Head.{Head}
+use Rattle.object_view.specs.declared.View.{View}
 use Rattle.model.specs.declared.Summary.{Summary}
 use Rattle.model.specs.Catalogue.{Catalogue}
 use Rattle.model.specs.Contents.{catalogueOf, versionOf}
-use Rattle.model.specs.Deposit.{byteOrder}
 use Rattle.model.specs.Lent.{filled, bytesOf, sectionsAt, imageOf, summaryOf}
 use Rattle.model.specs.Object.{Object, Patch}
 use Rattle.model.specs.Patching.{finish}
@@ -24,7 +23,7 @@ use Rattle.decision.specs.Decided.{Goes}
 use Rattle.decision.specs.declared.Room.{Room}
 use Rattle.image.specs.Filled.{clearedFrom, filled-is}
 use Rattle.image.specs.Tables.{long-relocations, count-sections, count-programs, count-functions, count-maps}
-use Rattle.accepted.specs.Readable.{Readable}
+use Rattle.records.specs.Readable.{Readable}
 
 -- the exit lists, by the entry lists
 pub record Cleared (s p m l b s₂ p₂ m₂ l₂ b₂ : List ℕ) : Type 0 where
@@ -48,29 +47,29 @@ relocations-filled c t l n e h f =
     ap (λ (x : List ℕ). clearedFrom x (n * 4)) f ∙ filled-is (imageOf c .relocations) t (n * 4) (long-relocations c ∙ ap (λ (k : ℕ). k * 4) (sym e)) h
 
 -- what filling needs: nothing refuses the object, all of it fits, and its relocations' rows are stored
-pub record Fillable (d : List ℕ) (gap : ℕ) (h : Head) (entries lent : List ℕ) (plan : Plan) (s p f m symbols by sections programs maps relocations bytes : List ℕ) : Type 0 where
-  pub readable : Readable d gap h
-  pub ok : objectRefusal (objectIn d gap h) ≡ none
-  pub fine : patchRefusal (objectIn d gap h) (catalogue d gap h .maps) 1 (patchesOf entries lent) ≡ none
-  pub held : Held d gap h (plan .counts) s p f m
-  pub at : At (catalogue d gap h) (plan .places)
-  pub count : plan .relocations ≡ length (catalogue d gap h .relocations)
-  pub ready : Ready d gap h entries m (plan .counts .maps) (take (h .symbols) symbols) by
-  pub known : h .symbols ≤ length symbols
+pub record Fillable (d t : List ℕ) (v : View) (entries lent : List ℕ) (plan : Plan) (s p f m symbols by sections programs maps relocations bytes : List ℕ) : Type 0 where
+  pub readable : Readable d t v
+  pub ok : objectRefusal (objectIn d t v) ≡ none
+  pub fine : patchRefusal (objectIn d t v) (catalogue d t v .maps) 1 (patchesOf entries lent) ≡ none
+  pub held : Held d t v (plan .counts) s p f m
+  pub at : At (catalogue d t v) (plan .places)
+  pub count : plan .relocations ≡ length (catalogue d t v .relocations)
+  pub ready : Ready d t v entries m (plan .counts .maps) (take (v .symbols) symbols) by
+  pub known : v .symbols ≤ length symbols
   pub room-sections : plan .counts .sections * 4 ≤ length sections
   pub room-programs : plan .counts .programs * 7 ≤ length programs
   pub room-maps : plan .counts .maps * 27 ≤ length maps
   pub room-relocations : plan .relocations * 4 ≤ length relocations
-  pub room-bytes : length (bytesOf (catalogue d gap h)) ≤ length bytes
+  pub room-bytes : length (bytesOf (catalogue d t v)) ≤ length bytes
   pub few : plan .relocations * 4 < 2 ^ 64
-  pub stored : relocations ≡ imageOf (catalogue d gap h) .relocations ++ drop (plan .relocations * 4) relocations
+  pub stored : relocations ≡ imageOf (catalogue d t v) .relocations ++ drop (plan .relocations * 4) relocations
 
 -- the summary by the plan
-unfoldable pub summaryBy : List ℕ → ℕ → Head → Plan → Summary
-summaryBy d gap h plan =
+unfoldable pub summaryBy : List ℕ → List ℕ → View → Plan → Summary
+summaryBy d t v plan =
     record {
-      order = byteOrder (h .order);
-      version = versionOf (objectIn d gap h);
+      order = v .order;
+      version = versionOf (objectIn d t v);
       license = plan .places .sections;
       sections = plan .counts .sections;
       programs = plan .counts .programs;
@@ -80,23 +79,23 @@ summaryBy d gap h plan =
       bytes = plan .places .end;
     }
 
-module _ (d : List ℕ) (gap : ℕ) (h : Head) (entries lent : List ℕ) (room : Room) (plan : Plan) (s p f m order by : List ℕ) (r : Readable d gap h) (g : Goes d gap h entries lent room plan s p f m order by) where
-  order-is : catalogue d gap h .order ≡ byteOrder (h .order)
+module _ (d t : List ℕ) (v : View) (entries lent : List ℕ) (room : Room) (plan : Plan) (s p f m order by : List ℕ) (r : Readable d t v) (g : Goes d t v entries lent room plan s p f m order by) where
+  order-is : catalogue d t v .order ≡ v .order
   unfolding catalogueOf objectIn
   order-is = refl
 
-  version-is : catalogue d gap h .version ≡ versionOf (objectIn d gap h)
+  version-is : catalogue d t v .version ≡ versionOf (objectIn d t v)
   unfolding catalogueOf
   version-is = refl
 
-  pub summary-is : summaryBy d gap h plan ≡ summaryOf (catalogue d gap h)
+  pub summary-is : summaryBy d t v plan ≡ summaryOf (catalogue d t v)
   unfolding summaryOf sectionsAt summaryBy
   summary-is =
-      let t = g .held in
-      let x₄ = sym (count-sections d gap h (plan .counts .sections) s (t .sections-in) (t .sections)) in
-      let x₅ = sym (count-programs d gap h (plan .counts .programs) p (t .programs-in) r (g .ok) (t .programs)) in
-      let x₆ = sym (count-functions d gap h (plan .counts .functions) f (t .functions-in) r (g .ok) (t .functions)) in
-      let x₇ = sym (count-maps d gap h (plan .counts .maps) m (t .maps-in) r (g .ok) (t .maps)) in
+      let held = g .held in
+      let x₄ = sym (count-sections d t v (plan .counts .sections) s (held .sections-in) (held .sections)) in
+      let x₅ = sym (count-programs d t v (plan .counts .programs) p (held .programs-in) r (g .ok) (held .programs)) in
+      let x₆ = sym (count-functions d t v (plan .counts .functions) f (held .functions-in) r (g .ok) (held .functions)) in
+      let x₇ = sym (count-maps d t v (plan .counts .maps) m (held .maps-in) r (g .ok) (held .maps)) in
       λ j.
       record {
         order = sym order-is j;

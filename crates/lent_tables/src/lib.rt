@@ -1,4 +1,4 @@
-// Everything that is lent but the function table: cleared where the deposit goes back, filled where it is accepted; and the summary.
+// Everything that is lent but the function table: cleared where the object is refused, filled where it is accepted; and the summary.
 ghost use mathlib.Core.Path.{_≡_};
 ghost use mathlib.Core.Option.{none};
 ghost use Prim.Native.Nat.{_≤_};
@@ -8,7 +8,6 @@ ghost use Rattle.first_checks.specs.LicenceVersion.{versionRefused};
 ghost use Rattle.lent_tables.specs.Fills.{Cleared, Filled, Fillable, summaryBy};
 use decision::Plan;
 use finished_bytes::fill_bytes;
-use first_checks::byte_order;
 use first_checks::version_of;
 use image::clear_from;
 use image::fill_maps;
@@ -16,8 +15,8 @@ use image::fill_programs;
 use image::fill_sections;
 use lists::zero8;
 use lists::zero64;
-use model::Head;
 use model::Summary;
+use object_view::View;
 use stream::size;
 
 pub fn clear(
@@ -39,8 +38,8 @@ pub fn clear(
 // The record numbers of sections, programs, functions and maps are s, p, f and m.
 pub fn fill(
     d: &[u8],
-    gap: usize,
-    h: Head,
+    t: &[u32],
+    v: View,
     entries: &[u64],
     patches: &[u8],
     rewrite: bool,
@@ -57,20 +56,20 @@ pub fn fill(
     relocations: &mut [u64],
     bytes: &mut [u8],
 )
-    requires { ⌜ Fillable (now d) gap h (now entries) (now patches) plan (now s) (now p) (now f) (now m) (now symbols) (now by) (now sections) (now programs) (now maps) (now relocations) (now bytes) ⌝ }
-    ensures { λ r. ⌜ Filled (objectIn (now (d .entry)) gap h) (patchesOf (now (entries .entry)) (now (patches .entry))) rewrite (now (sections .entry)) (now (programs .entry)) (now (maps .entry)) (now (relocations .entry)) (now (bytes .entry)) (now (sections .exit)) (now (programs .exit)) (now (maps .exit)) (now (relocations .exit)) (now (bytes .exit)) ⌝ }
+    requires { ⌜ Fillable (now d) (now t) v (now entries) (now patches) plan (now s) (now p) (now f) (now m) (now symbols) (now by) (now sections) (now programs) (now maps) (now relocations) (now bytes) ⌝ }
+    ensures { λ r. ⌜ Filled (objectIn (now (d .entry)) (now (t .entry)) v) (patchesOf (now (entries .entry)) (now (patches .entry))) rewrite (now (sections .entry)) (now (programs .entry)) (now (maps .entry)) (now (relocations .entry)) (now (bytes .entry)) (now (sections .exit)) (now (programs .exit)) (now (maps .exit)) (now (relocations .exit)) (now (bytes .exit)) ⌝ }
 {
     let n = plan.counts;
     let places = plan.places;
-    let y = size(h.symbols);
-    fill_sections(d, gap, h, s, n.sections, places, sections);
-    fill_programs(d, gap, h, p, n.programs, places, programs);
-    fill_maps(d, gap, h, m, n.maps, places, maps);
+    let y = size(v.symbols);
+    fill_sections(d, t, v, s, n.sections, places, sections);
+    fill_programs(d, t, v, p, n.programs, places, programs);
+    fill_maps(d, t, v, m, n.maps, places, maps);
     clear_from(relocations, plan.relocations * 4);
     fill_bytes(
         d,
-        gap,
-        h,
+        t,
+        v,
         entries,
         patches,
         rewrite,
@@ -93,13 +92,14 @@ fn wide(x: usize) -> u64
     x as u64
 }
 
-pub fn summary(d: &[u8], gap: usize, h: Head, plan: Plan) -> Summary
-    requires { ⌜ (gap ≤ 4) × (versionRefused (now d) gap h ≡ none) ⌝ }
-    ensures { λ r. ⌜ r ≡ summaryBy (now (d .entry)) gap h plan ⌝ }
+pub fn summary(d: &[u8], t: &[u32], v: View, plan: Plan) -> Summary
+    requires { ⌜ versionRefused (now d) (now t) v ≡ none ⌝ }
+    ensures { λ r. ⌜ r ≡ summaryBy (now (d .entry)) (now (t .entry)) v plan ⌝ }
 {
+    let order = v.order;
     Summary {
-        order: byte_order(h),
-        version: version_of(d, gap, h),
+        order,
+        version: version_of(d, t, v),
         license: wide(plan.places.sections),
         sections: wide(plan.counts.sections),
         programs: wide(plan.counts.programs),

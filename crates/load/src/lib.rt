@@ -1,19 +1,22 @@
-// The load call: a core that fills the plain tables and an array of record numbers, and the rows of the function table by those. The array is as large as the deposit asks.
+// The load call: a core that fills the plain tables and an array of record numbers, and the rows of the function table by those. The array is as large as the count of symbols asks.
 ghost use mathlib.Core.Path.{_≡_};
 ghost use Prim.Native.Nat.{_≤_};
 ghost use lib.Dec.{leb};
 ghost use lib.ListN.{length};
-ghost use Rattle.model.specs.Lent.{loadOf};
-ghost use Rattle.load_core.specs.Done.{lentRoom};
+ghost use Rattle.model.specs.Lent.{outcome, loadOf};
+ghost use Rattle.load_core.specs.Done.{lentRoom, Open, symbolsOf, verdictIn};
 ghost use Rattle.load.specs.Loads.{Loads};
+use deposit::open;
 use function_table::fill;
 use load_core::load_core;
 use model::Answer;
 use model::Function;
+use object_view::Opened;
 
-// A record takes sixteen bytes of a deposit or more, so that the array has room for each.
 fn load_small(
     d: &[u8],
+    t: &[u32],
+    opened: Opened,
     entries: &[u64],
     patches: &[u8],
     rewrite: bool,
@@ -24,13 +27,15 @@ fn load_small(
     relocations: &mut [u64],
     bytes: &mut [u8],
 ) -> Answer
-    requires { ⌜ length (now d) ≤ 16384 ⌝ }
-    ensures { λ r. ⌜ Loads (loadOf (now (d .entry)) (now (entries .entry)) (now (patches .entry)) rewrite (lentRoom (length (now (sections .entry))) (length (now (programs .entry))) (length (now (functions .entry))) (length (now (maps .entry))) (length (now (relocations .entry))) (length (now (bytes .entry))))) r (now (sections .exit)) (now (programs .exit)) (now (functions .exit)) (now (maps .exit)) (now (relocations .exit)) (now (bytes .exit)) ⌝ }
+    requires { ⌜ Open (now d) (now t) opened × (symbolsOf opened ≤ 256) ⌝ }
+    ensures { λ r. ⌜ Loads (outcome (lentRoom (length (now (sections .entry))) (length (now (programs .entry))) (length (now (functions .entry))) (length (now (maps .entry))) (length (now (relocations .entry))) (length (now (bytes .entry)))) (verdictIn (now (d .entry)) (now (t .entry)) opened (now (entries .entry)) (now (patches .entry)) rewrite)) r (now (sections .exit)) (now (programs .exit)) (now (functions .exit)) (now (maps .exit)) (now (relocations .exit)) (now (bytes .exit)) ⌝ }
 {
     let room = functions.len();
-    let mut order = [0u32; 1024];
+    let mut order = [0u32; 256];
     let loaded = load_core(
         d,
+        t,
+        opened,
         entries,
         patches,
         rewrite,
@@ -42,12 +47,14 @@ fn load_small(
         bytes,
         &mut order,
     );
-    fill(functions, d, &order, loaded.rows);
+    fill(functions, d, t, &order, loaded.rows);
     loaded.answer
 }
 
 fn load_medium(
     d: &[u8],
+    t: &[u32],
+    opened: Opened,
     entries: &[u64],
     patches: &[u8],
     rewrite: bool,
@@ -58,13 +65,15 @@ fn load_medium(
     relocations: &mut [u64],
     bytes: &mut [u8],
 ) -> Answer
-    requires { ⌜ length (now d) ≤ 131072 ⌝ }
-    ensures { λ r. ⌜ Loads (loadOf (now (d .entry)) (now (entries .entry)) (now (patches .entry)) rewrite (lentRoom (length (now (sections .entry))) (length (now (programs .entry))) (length (now (functions .entry))) (length (now (maps .entry))) (length (now (relocations .entry))) (length (now (bytes .entry))))) r (now (sections .exit)) (now (programs .exit)) (now (functions .exit)) (now (maps .exit)) (now (relocations .exit)) (now (bytes .exit)) ⌝ }
+    requires { ⌜ Open (now d) (now t) opened × (symbolsOf opened ≤ 4096) ⌝ }
+    ensures { λ r. ⌜ Loads (outcome (lentRoom (length (now (sections .entry))) (length (now (programs .entry))) (length (now (functions .entry))) (length (now (maps .entry))) (length (now (relocations .entry))) (length (now (bytes .entry)))) (verdictIn (now (d .entry)) (now (t .entry)) opened (now (entries .entry)) (now (patches .entry)) rewrite)) r (now (sections .exit)) (now (programs .exit)) (now (functions .exit)) (now (maps .exit)) (now (relocations .exit)) (now (bytes .exit)) ⌝ }
 {
     let room = functions.len();
-    let mut order = [0u32; 8192];
+    let mut order = [0u32; 4096];
     let loaded = load_core(
         d,
+        t,
+        opened,
         entries,
         patches,
         rewrite,
@@ -76,12 +85,15 @@ fn load_medium(
         bytes,
         &mut order,
     );
-    fill(functions, d, &order, loaded.rows);
+    fill(functions, d, t, &order, loaded.rows);
     loaded.answer
 }
 
+// An opened object has no more symbols than the array has room for.
 fn load_large(
     d: &[u8],
+    t: &[u32],
+    opened: Opened,
     entries: &[u64],
     patches: &[u8],
     rewrite: bool,
@@ -92,12 +104,15 @@ fn load_large(
     relocations: &mut [u64],
     bytes: &mut [u8],
 ) -> Answer
-    ensures { λ r. ⌜ Loads (loadOf (now (d .entry)) (now (entries .entry)) (now (patches .entry)) rewrite (lentRoom (length (now (sections .entry))) (length (now (programs .entry))) (length (now (functions .entry))) (length (now (maps .entry))) (length (now (relocations .entry))) (length (now (bytes .entry))))) r (now (sections .exit)) (now (programs .exit)) (now (functions .exit)) (now (maps .exit)) (now (relocations .exit)) (now (bytes .exit)) ⌝ }
+    requires { ⌜ Open (now d) (now t) opened ⌝ }
+    ensures { λ r. ⌜ Loads (outcome (lentRoom (length (now (sections .entry))) (length (now (programs .entry))) (length (now (functions .entry))) (length (now (maps .entry))) (length (now (relocations .entry))) (length (now (bytes .entry)))) (verdictIn (now (d .entry)) (now (t .entry)) opened (now (entries .entry)) (now (patches .entry)) rewrite)) r (now (sections .exit)) (now (programs .exit)) (now (functions .exit)) (now (maps .exit)) (now (relocations .exit)) (now (bytes .exit)) ⌝ }
 {
     let room = functions.len();
     let mut order = [0u32; 65536];
     let loaded = load_core(
         d,
+        t,
+        opened,
         entries,
         patches,
         rewrite,
@@ -109,24 +124,32 @@ fn load_large(
         bytes,
         &mut order,
     );
-    fill(functions, d, &order, loaded.rows);
+    fill(functions, d, t, &order, loaded.rows);
     loaded.answer
 }
 
-fn is_small(d: &[u8]) -> bool
-    ensures { λ r. ⌜ r ≡ leb (length (now (d .entry))) 16384 ⌝ }
+fn is_small(opened: Opened) -> bool
+    ensures { λ r. ⌜ r ≡ leb (symbolsOf opened) 256 ⌝ }
 {
-    d.len() <= 16384
+    match opened {
+        Opened::Refused(_) => true,
+        Opened::View(v) => v.symbols <= 256,
+    }
 }
 
-fn is_medium(d: &[u8]) -> bool
-    ensures { λ r. ⌜ r ≡ leb (length (now (d .entry))) 131072 ⌝ }
+fn is_medium(opened: Opened) -> bool
+    ensures { λ r. ⌜ r ≡ leb (symbolsOf opened) 4096 ⌝ }
 {
-    d.len() <= 131072
+    match opened {
+        Opened::Refused(_) => true,
+        Opened::View(v) => v.symbols <= 4096,
+    }
 }
 
 fn load_more(
     d: &[u8],
+    t: &[u32],
+    opened: Opened,
     entries: &[u64],
     patches: &[u8],
     rewrite: bool,
@@ -137,11 +160,14 @@ fn load_more(
     relocations: &mut [u64],
     bytes: &mut [u8],
 ) -> Answer
-    ensures { λ r. ⌜ Loads (loadOf (now (d .entry)) (now (entries .entry)) (now (patches .entry)) rewrite (lentRoom (length (now (sections .entry))) (length (now (programs .entry))) (length (now (functions .entry))) (length (now (maps .entry))) (length (now (relocations .entry))) (length (now (bytes .entry))))) r (now (sections .exit)) (now (programs .exit)) (now (functions .exit)) (now (maps .exit)) (now (relocations .exit)) (now (bytes .exit)) ⌝ }
+    requires { ⌜ Open (now d) (now t) opened ⌝ }
+    ensures { λ r. ⌜ Loads (outcome (lentRoom (length (now (sections .entry))) (length (now (programs .entry))) (length (now (functions .entry))) (length (now (maps .entry))) (length (now (relocations .entry))) (length (now (bytes .entry)))) (verdictIn (now (d .entry)) (now (t .entry)) opened (now (entries .entry)) (now (patches .entry)) rewrite)) r (now (sections .exit)) (now (programs .exit)) (now (functions .exit)) (now (maps .exit)) (now (relocations .exit)) (now (bytes .exit)) ⌝ }
 {
-    if is_medium(d) {
+    if is_medium(opened) {
         load_medium(
             d,
+            t,
+            opened,
             entries,
             patches,
             rewrite,
@@ -155,6 +181,8 @@ fn load_more(
     } else {
         load_large(
             d,
+            t,
+            opened,
             entries,
             patches,
             rewrite,
@@ -168,6 +196,58 @@ fn load_more(
     }
 }
 
+// What was opened is loaded.
+pub fn load_opened(
+    d: &[u8],
+    t: &[u32],
+    opened: Opened,
+    entries: &[u64],
+    patches: &[u8],
+    rewrite: bool,
+    sections: &mut [u64],
+    programs: &mut [u64],
+    functions: &mut [Function],
+    maps: &mut [u64],
+    relocations: &mut [u64],
+    bytes: &mut [u8],
+) -> Answer
+    requires { ⌜ Open (now d) (now t) opened ⌝ }
+    ensures { λ r. ⌜ Loads (outcome (lentRoom (length (now (sections .entry))) (length (now (programs .entry))) (length (now (functions .entry))) (length (now (maps .entry))) (length (now (relocations .entry))) (length (now (bytes .entry)))) (verdictIn (now (d .entry)) (now (t .entry)) opened (now (entries .entry)) (now (patches .entry)) rewrite)) r (now (sections .exit)) (now (programs .exit)) (now (functions .exit)) (now (maps .exit)) (now (relocations .exit)) (now (bytes .exit)) ⌝ }
+{
+    if is_small(opened) {
+        load_small(
+            d,
+            t,
+            opened,
+            entries,
+            patches,
+            rewrite,
+            sections,
+            programs,
+            functions,
+            maps,
+            relocations,
+            bytes,
+        )
+    } else {
+        load_more(
+            d,
+            t,
+            opened,
+            entries,
+            patches,
+            rewrite,
+            sections,
+            programs,
+            functions,
+            maps,
+            relocations,
+            bytes,
+        )
+    }
+}
+
+// A deposit is opened and loaded; it has no index.
 pub fn load(
     d: &[u8],
     entries: &[u64],
@@ -182,31 +262,20 @@ pub fn load(
 ) -> Answer
     ensures { λ r. ⌜ Loads (loadOf (now (d .entry)) (now (entries .entry)) (now (patches .entry)) rewrite (lentRoom (length (now (sections .entry))) (length (now (programs .entry))) (length (now (functions .entry))) (length (now (maps .entry))) (length (now (relocations .entry))) (length (now (bytes .entry))))) r (now (sections .exit)) (now (programs .exit)) (now (functions .exit)) (now (maps .exit)) (now (relocations .exit)) (now (bytes .exit)) ⌝ }
 {
-    if is_small(d) {
-        load_small(
-            d,
-            entries,
-            patches,
-            rewrite,
-            sections,
-            programs,
-            functions,
-            maps,
-            relocations,
-            bytes,
-        )
-    } else {
-        load_more(
-            d,
-            entries,
-            patches,
-            rewrite,
-            sections,
-            programs,
-            functions,
-            maps,
-            relocations,
-            bytes,
-        )
-    }
+    let opened = open(d);
+    let t = [0u32; 0];
+    load_opened(
+        d,
+        &t,
+        opened,
+        entries,
+        patches,
+        rewrite,
+        sections,
+        programs,
+        functions,
+        maps,
+        relocations,
+        bytes,
+    )
 }

@@ -1,56 +1,76 @@
 // The load call without the function table: its answer, the lent tables and bytes, and which rows of the function table are to be stored.
 ghost use mathlib.Core.Path.{_≡_};
+ghost use mathlib.Core.Bool.{_&&_};
 ghost use mathlib.Core.Option.{none};
-ghost use Prim.Native.Nat.{_*_, _^_, _<_, _≤_, min};
+ghost use Prim.Native.Nat.{_+_, _^_, _<_, _≤_};
+ghost use lib.Dec.{leb};
 ghost use lib.ListN.{length};
-ghost use Rattle.model.specs.Lent.{loadOf, outcome};
+ghost use Rattle.model.specs.Lent.{outcome};
 ghost use Rattle.model.specs.PatchList.{patchesOf};
 ghost use Rattle.model.specs.Patching.{load};
-ghost use Rattle.accepted.specs.Readable.{Readable};
+ghost use Rattle.records.specs.Readable.{Readable};
 ghost use Rattle.view.specs.View.{objectIn};
 ghost use Rattle.first_checks.specs.LicenceVersion.{versionRefused};
 ghost use Rattle.decision.specs.Decided.{Scratch};
 ghost use Rattle.decision.specs.Room.{roomOf};
-ghost use Rattle.load_core.specs.Core.{sentBack, handedOver, Opens, Sized};
-ghost use Rattle.load_core.specs.Done.{lentRoom, CoreDone};
+ghost use Rattle.load_core.specs.Core.{noView, refusedBy, acceptedBy, Opens, Sized};
+ghost use Rattle.load_core.specs.Done.{lentRoom, Open, symbolsOf, verdictIn, CoreDone};
 ghost use Rattle.lent_tables.specs.Fills.{Cleared, Filled, Fillable};
 use decision::Decision;
 use decision::Plan;
 use decision::Room;
 use decision::decide;
-use deposit::Opened;
 use function_table::Rows;
 use lent_tables::clear;
 use lent_tables::fill;
 use lent_tables::summary;
 use model::Answer;
-use model::Head;
+use model::Endianness;
 use model::Refusal;
+use object_view::Form;
+use object_view::Opened;
+use object_view::Places;
+use object_view::Strings;
+use object_view::View;
 use stream::size;
-
-// A deposit's checks stand between its blocks.
-const GAP: usize = 4;
 
 pub struct Loaded {
     pub answer: Answer,
     pub rows: Rows,
 }
 
-fn sent_back(r: Refusal) -> Loaded
-    ensures { λ l. ⌜ l ≡ sentBack r ⌝ }
+// A view of nothing.
+fn no_view() -> View
+    ensures { λ r. ⌜ r ≡ noView ⌝ }
 {
+    View {
+        form: Form::Deposit,
+        order: Endianness::Little,
+        sections: 0,
+        symbols: 0,
+        relocations: 0,
+        at: Places {
+            sections: 0,
+            symbols: 0,
+            relocations: 0,
+            names: 0,
+            bytes: 0,
+        },
+        strings: Strings {
+            sections: 0,
+            symbols: 0,
+        },
+    }
+}
+
+fn refused(r: Refusal) -> Loaded
+    ensures { λ l. ⌜ l ≡ refusedBy r ⌝ }
+{
+    let view = no_view();
     Loaded {
         answer: Answer::Refused(r),
         rows: Rows {
-            head: Head {
-                order: 0,
-                sections: 0,
-                symbols: 0,
-                relocations: 0,
-                names: 0,
-                bytes: 0,
-                reserved: 0,
-            },
+            view,
             count: 0,
             name: 0,
             code: 0,
@@ -64,14 +84,14 @@ fn wide(x: usize) -> u64
     x as u64
 }
 
-fn handed_over(d: &[u8], h: Head, plan: Plan) -> Loaded
-    requires { ⌜ versionRefused (now d) 4 h ≡ none ⌝ }
-    ensures { λ l. ⌜ l ≡ handedOver (now (d .entry)) h plan ⌝ }
+fn accepted(d: &[u8], t: &[u32], v: View, plan: Plan) -> Loaded
+    requires { ⌜ versionRefused (now d) (now t) v ≡ none ⌝ }
+    ensures { λ l. ⌜ l ≡ acceptedBy (now (d .entry)) (now (t .entry)) v plan ⌝ }
 {
     Loaded {
-        answer: Answer::Accepted(summary(d, GAP, h, plan)),
+        answer: Answer::Accepted(summary(d, t, v, plan)),
         rows: Rows {
-            head: h,
+            view: v,
             count: plan.counts.functions,
             name: wide(plan.places.functions),
             code: wide(plan.places.code),
@@ -88,16 +108,17 @@ fn refuse(
     relocations: &mut [u64],
     bytes: &mut [u8],
 ) -> Loaded
-    ensures { λ l. ⌜ (l ≡ sentBack r) × Cleared (now (sections .entry)) (now (programs .entry)) (now (maps .entry)) (now (relocations .entry)) (now (bytes .entry)) (now (sections .exit)) (now (programs .exit)) (now (maps .exit)) (now (relocations .exit)) (now (bytes .exit)) ⌝ }
+    ensures { λ l. ⌜ (l ≡ refusedBy r) × Cleared (now (sections .entry)) (now (programs .entry)) (now (maps .entry)) (now (relocations .entry)) (now (bytes .entry)) (now (sections .exit)) (now (programs .exit)) (now (maps .exit)) (now (relocations .exit)) (now (bytes .exit)) ⌝ }
 {
     clear(sections, programs, maps, relocations, bytes);
-    sent_back(r)
+    refused(r)
 }
 
 // The record numbers of sections, programs, functions and maps are s, p, f and m.
 fn deliver(
     d: &[u8],
-    h: Head,
+    t: &[u32],
+    v: View,
     entries: &[u64],
     patches: &[u8],
     rewrite: bool,
@@ -114,13 +135,13 @@ fn deliver(
     relocations: &mut [u64],
     bytes: &mut [u8],
 ) -> Loaded
-    requires { ⌜ Fillable (now d) 4 h (now entries) (now patches) plan (now s) (now p) (now f) (now m) (now symbols) (now by) (now sections) (now programs) (now maps) (now relocations) (now bytes) ⌝ }
-    ensures { λ l. ⌜ (l ≡ handedOver (now (d .entry)) h plan) × Filled (objectIn (now (d .entry)) 4 h) (patchesOf (now (entries .entry)) (now (patches .entry))) rewrite (now (sections .entry)) (now (programs .entry)) (now (maps .entry)) (now (relocations .entry)) (now (bytes .entry)) (now (sections .exit)) (now (programs .exit)) (now (maps .exit)) (now (relocations .exit)) (now (bytes .exit)) ⌝ }
+    requires { ⌜ Fillable (now d) (now t) v (now entries) (now patches) plan (now s) (now p) (now f) (now m) (now symbols) (now by) (now sections) (now programs) (now maps) (now relocations) (now bytes) ⌝ }
+    ensures { λ l. ⌜ (l ≡ acceptedBy (now (d .entry)) (now (t .entry)) v plan) × Filled (objectIn (now (d .entry)) (now (t .entry)) v) (patchesOf (now (entries .entry)) (now (patches .entry))) rewrite (now (sections .entry)) (now (programs .entry)) (now (maps .entry)) (now (relocations .entry)) (now (bytes .entry)) (now (sections .exit)) (now (programs .exit)) (now (maps .exit)) (now (relocations .exit)) (now (bytes .exit)) ⌝ }
 {
     fill(
         d,
-        GAP,
-        h,
+        t,
+        v,
         entries,
         patches,
         rewrite,
@@ -137,13 +158,14 @@ fn deliver(
         relocations,
         bytes,
     );
-    handed_over(d, h, plan)
+    accepted(d, t, v, plan)
 }
 
 // The record numbers of sections, programs, functions and maps go into s, p, f and m; tmp, symbols and by are worked in.
 fn load_opened(
     d: &[u8],
-    h: Head,
+    t: &[u32],
+    v: View,
     entries: &[u64],
     patches: &[u8],
     rewrite: bool,
@@ -161,13 +183,13 @@ fn load_opened(
     symbols: &mut [u32],
     by: &mut [u32],
 ) -> Loaded
-    requires { ⌜ Readable (now d) 4 h × Scratch h (now s) (now p) (now f) (now m) (now tmp) (now symbols) (now by) × Sized room (now sections) (now programs) (now maps) (now relocations) (now bytes) × (room .relocations < 2 ^ 64) ⌝ }
-    ensures { λ r. ⌜ Opens (now (d .entry)) (room .functions) (outcome (roomOf room) (load (objectIn (now (d .entry)) 4 h) (patchesOf (now (entries .entry)) (now (patches .entry))) rewrite)) r (now (sections .exit)) (now (programs .exit)) (now (maps .exit)) (now (relocations .exit)) (now (bytes .exit)) (now (f .exit)) ⌝ }
+    requires { ⌜ Readable (now d) (now t) v × Scratch v (now s) (now p) (now f) (now m) (now tmp) (now symbols) (now by) × Sized room (now sections) (now programs) (now maps) (now relocations) (now bytes) × (room .relocations < 2 ^ 64) ⌝ }
+    ensures { λ r. ⌜ Opens (now (d .entry)) (now (t .entry)) (room .functions) (outcome (roomOf room) (load (objectIn (now (d .entry)) (now (t .entry)) v) (patchesOf (now (entries .entry)) (now (patches .entry))) rewrite)) r (now (sections .exit)) (now (programs .exit)) (now (maps .exit)) (now (relocations .exit)) (now (bytes .exit)) (now (f .exit)) ⌝ }
 {
     match decide(
         d,
-        GAP,
-        h,
+        t,
+        v,
         entries,
         patches,
         room,
@@ -184,7 +206,8 @@ fn load_opened(
         Decision::Accepted(plan) => {
             deliver(
                 d,
-                h,
+                t,
+                v,
                 entries,
                 patches,
                 rewrite,
@@ -205,10 +228,11 @@ fn load_opened(
     }
 }
 
-// A record takes sixteen bytes of a deposit or more, so that the arrays have room for each.
+// For an object of few records.
 fn load_small(
     d: &[u8],
-    h: Head,
+    t: &[u32],
+    v: View,
     entries: &[u64],
     patches: &[u8],
     rewrite: bool,
@@ -220,18 +244,19 @@ fn load_small(
     bytes: &mut [u8],
     f: &mut [u32],
 ) -> Loaded
-    requires { ⌜ (length (now d) ≤ 16384) × Readable (now d) 4 h × (length (now f) ≡ h .symbols) × Sized room (now sections) (now programs) (now maps) (now relocations) (now bytes) × (room .relocations < 2 ^ 64) ⌝ }
-    ensures { λ r. ⌜ Opens (now (d .entry)) (room .functions) (outcome (roomOf room) (load (objectIn (now (d .entry)) 4 h) (patchesOf (now (entries .entry)) (now (patches .entry))) rewrite)) r (now (sections .exit)) (now (programs .exit)) (now (maps .exit)) (now (relocations .exit)) (now (bytes .exit)) (now (f .exit)) ⌝ }
+    requires { ⌜ (v .sections + v .symbols ≤ 256) × (v .relocations ≤ 256) × Readable (now d) (now t) v × (length (now f) ≡ v .symbols) × Sized room (now sections) (now programs) (now maps) (now relocations) (now bytes) × (room .relocations < 2 ^ 64) ⌝ }
+    ensures { λ r. ⌜ Opens (now (d .entry)) (now (t .entry)) (room .functions) (outcome (roomOf room) (load (objectIn (now (d .entry)) (now (t .entry)) v) (patchesOf (now (entries .entry)) (now (patches .entry))) rewrite)) r (now (sections .exit)) (now (programs .exit)) (now (maps .exit)) (now (relocations .exit)) (now (bytes .exit)) (now (f .exit)) ⌝ }
 {
-    let mut s = [0u32; 1024];
-    let mut p = [0u32; 1024];
-    let mut m = [0u32; 1024];
-    let mut tmp = [0u32; 1024];
-    let mut symbols = [0u32; 1024];
-    let mut by = [0u32; 1024];
+    let mut s = [0u32; 256];
+    let mut p = [0u32; 256];
+    let mut m = [0u32; 256];
+    let mut tmp = [0u32; 256];
+    let mut symbols = [0u32; 256];
+    let mut by = [0u32; 256];
     load_opened(
         d,
-        h,
+        t,
+        v,
         entries,
         patches,
         rewrite,
@@ -253,7 +278,8 @@ fn load_small(
 
 fn load_medium(
     d: &[u8],
-    h: Head,
+    t: &[u32],
+    v: View,
     entries: &[u64],
     patches: &[u8],
     rewrite: bool,
@@ -265,18 +291,19 @@ fn load_medium(
     bytes: &mut [u8],
     f: &mut [u32],
 ) -> Loaded
-    requires { ⌜ (length (now d) ≤ 131072) × Readable (now d) 4 h × (length (now f) ≡ h .symbols) × Sized room (now sections) (now programs) (now maps) (now relocations) (now bytes) × (room .relocations < 2 ^ 64) ⌝ }
-    ensures { λ r. ⌜ Opens (now (d .entry)) (room .functions) (outcome (roomOf room) (load (objectIn (now (d .entry)) 4 h) (patchesOf (now (entries .entry)) (now (patches .entry))) rewrite)) r (now (sections .exit)) (now (programs .exit)) (now (maps .exit)) (now (relocations .exit)) (now (bytes .exit)) (now (f .exit)) ⌝ }
+    requires { ⌜ (v .sections + v .symbols ≤ 4096) × (v .relocations ≤ 4096) × Readable (now d) (now t) v × (length (now f) ≡ v .symbols) × Sized room (now sections) (now programs) (now maps) (now relocations) (now bytes) × (room .relocations < 2 ^ 64) ⌝ }
+    ensures { λ r. ⌜ Opens (now (d .entry)) (now (t .entry)) (room .functions) (outcome (roomOf room) (load (objectIn (now (d .entry)) (now (t .entry)) v) (patchesOf (now (entries .entry)) (now (patches .entry))) rewrite)) r (now (sections .exit)) (now (programs .exit)) (now (maps .exit)) (now (relocations .exit)) (now (bytes .exit)) (now (f .exit)) ⌝ }
 {
-    let mut s = [0u32; 8192];
-    let mut p = [0u32; 8192];
-    let mut m = [0u32; 8192];
-    let mut tmp = [0u32; 8192];
-    let mut symbols = [0u32; 8192];
-    let mut by = [0u32; 8192];
+    let mut s = [0u32; 4096];
+    let mut p = [0u32; 4096];
+    let mut m = [0u32; 4096];
+    let mut tmp = [0u32; 4096];
+    let mut symbols = [0u32; 4096];
+    let mut by = [0u32; 4096];
     load_opened(
         d,
-        h,
+        t,
+        v,
         entries,
         patches,
         rewrite,
@@ -299,7 +326,8 @@ fn load_medium(
 // As many as there may be of each.
 fn load_large(
     d: &[u8],
-    h: Head,
+    t: &[u32],
+    v: View,
     entries: &[u64],
     patches: &[u8],
     rewrite: bool,
@@ -311,8 +339,8 @@ fn load_large(
     bytes: &mut [u8],
     f: &mut [u32],
 ) -> Loaded
-    requires { ⌜ Readable (now d) 4 h × (length (now f) ≡ h .symbols) × Sized room (now sections) (now programs) (now maps) (now relocations) (now bytes) × (room .relocations < 2 ^ 64) ⌝ }
-    ensures { λ r. ⌜ Opens (now (d .entry)) (room .functions) (outcome (roomOf room) (load (objectIn (now (d .entry)) 4 h) (patchesOf (now (entries .entry)) (now (patches .entry))) rewrite)) r (now (sections .exit)) (now (programs .exit)) (now (maps .exit)) (now (relocations .exit)) (now (bytes .exit)) (now (f .exit)) ⌝ }
+    requires { ⌜ Readable (now d) (now t) v × (length (now f) ≡ v .symbols) × Sized room (now sections) (now programs) (now maps) (now relocations) (now bytes) × (room .relocations < 2 ^ 64) ⌝ }
+    ensures { λ r. ⌜ Opens (now (d .entry)) (now (t .entry)) (room .functions) (outcome (roomOf room) (load (objectIn (now (d .entry)) (now (t .entry)) v) (patchesOf (now (entries .entry)) (now (patches .entry))) rewrite)) r (now (sections .exit)) (now (programs .exit)) (now (maps .exit)) (now (relocations .exit)) (now (bytes .exit)) (now (f .exit)) ⌝ }
 {
     let mut s = [0u32; 4096];
     let mut p = [0u32; 65536];
@@ -322,7 +350,8 @@ fn load_large(
     let mut by = [0u32; 4096];
     load_opened(
         d,
-        h,
+        t,
+        v,
         entries,
         patches,
         rewrite,
@@ -342,10 +371,22 @@ fn load_large(
     )
 }
 
-// The arrays are as large as the deposit asks, so that none is cleared in vain.
+// Whether n numbers are enough for the sections with the symbols, and for the relocations.
+fn few(v: View, n: usize) -> bool
+    ensures { λ r. ⌜ r ≡ (leb (v .sections + v .symbols) n && leb (v .relocations) n) ⌝ }
+{
+    if size(v.sections) + size(v.symbols) > n {
+        return false;
+    }
+    size(v.relocations) <= n
+}
+
+// The arrays are as large as the counts of records ask, so that none is cleared in vain: for step 2 small, for 1 medium, for 0 large ones.
+// It calls itself, so that the compiler gives each size a frame of its own.
 fn load_sized(
     d: &[u8],
-    h: Head,
+    t: &[u32],
+    v: View,
     entries: &[u64],
     patches: &[u8],
     rewrite: bool,
@@ -356,14 +397,16 @@ fn load_sized(
     relocations: &mut [u64],
     bytes: &mut [u8],
     f: &mut [u32],
+    step: usize,
 ) -> Loaded
-    requires { ⌜ Readable (now d) 4 h × (length (now f) ≡ h .symbols) × Sized room (now sections) (now programs) (now maps) (now relocations) (now bytes) × (room .relocations < 2 ^ 64) ⌝ }
-    ensures { λ r. ⌜ Opens (now (d .entry)) (room .functions) (outcome (roomOf room) (load (objectIn (now (d .entry)) 4 h) (patchesOf (now (entries .entry)) (now (patches .entry))) rewrite)) r (now (sections .exit)) (now (programs .exit)) (now (maps .exit)) (now (relocations .exit)) (now (bytes .exit)) (now (f .exit)) ⌝ }
+    requires { ⌜ Readable (now d) (now t) v × (length (now f) ≡ v .symbols) × Sized room (now sections) (now programs) (now maps) (now relocations) (now bytes) × (room .relocations < 2 ^ 64) ⌝ }
+    ensures { λ r. ⌜ Opens (now (d .entry)) (now (t .entry)) (room .functions) (outcome (roomOf room) (load (objectIn (now (d .entry)) (now (t .entry)) v) (patchesOf (now (entries .entry)) (now (patches .entry))) rewrite)) r (now (sections .exit)) (now (programs .exit)) (now (maps .exit)) (now (relocations .exit)) (now (bytes .exit)) (now (f .exit)) ⌝ }
 {
-    if d.len() <= 16384 {
-        return load_small(
+    if step == 0 {
+        return load_large(
             d,
-            h,
+            t,
+            v,
             entries,
             patches,
             rewrite,
@@ -376,25 +419,47 @@ fn load_sized(
             f,
         );
     }
-    if d.len() <= 131072 {
-        return load_medium(
-            d,
-            h,
-            entries,
-            patches,
-            rewrite,
-            room,
-            sections,
-            programs,
-            maps,
-            relocations,
-            bytes,
-            f,
-        );
+    if step == 1 {
+        if few(v, 4096) {
+            return load_medium(
+                d,
+                t,
+                v,
+                entries,
+                patches,
+                rewrite,
+                room,
+                sections,
+                programs,
+                maps,
+                relocations,
+                bytes,
+                f,
+            );
+        }
+    } else {
+        if few(v, 256) {
+            return load_small(
+                d,
+                t,
+                v,
+                entries,
+                patches,
+                rewrite,
+                room,
+                sections,
+                programs,
+                maps,
+                relocations,
+                bytes,
+                f,
+            );
+        }
     }
-    load_large(
+    load_sized(
         d,
-        h,
+        t,
+        v,
         entries,
         patches,
         rewrite,
@@ -405,12 +470,15 @@ fn load_sized(
         relocations,
         bytes,
         f,
+        step - 1,
     )
 }
 
 // `room` is how many rows the function table has; `order` gets the record numbers of its rows.
 pub fn load_core(
     d: &[u8],
+    t: &[u32],
+    opened: Opened,
     entries: &[u64],
     patches: &[u8],
     rewrite: bool,
@@ -422,8 +490,8 @@ pub fn load_core(
     bytes: &mut [u8],
     order: &mut [u32],
 ) -> Loaded
-    requires { ⌜ min (length (now d)) 1048576 ≤ 16 * length (now order) ⌝ }
-    ensures { λ r. ⌜ CoreDone (now (d .entry)) room (loadOf (now (d .entry)) (now (entries .entry)) (now (patches .entry)) rewrite (lentRoom (length (now (sections .entry))) (length (now (programs .entry))) room (length (now (maps .entry))) (length (now (relocations .entry))) (length (now (bytes .entry))))) r (now (sections .exit)) (now (programs .exit)) (now (maps .exit)) (now (relocations .exit)) (now (bytes .exit)) (now (order .exit)) ⌝ }
+    requires { ⌜ Open (now d) (now t) opened × (symbolsOf opened ≤ length (now order)) ⌝ }
+    ensures { λ r. ⌜ CoreDone (now (d .entry)) (now (t .entry)) room (outcome (lentRoom (length (now (sections .entry))) (length (now (programs .entry))) room (length (now (maps .entry))) (length (now (relocations .entry))) (length (now (bytes .entry)))) (verdictIn (now (d .entry)) (now (t .entry)) opened (now (entries .entry)) (now (patches .entry)) rewrite)) r (now (sections .exit)) (now (programs .exit)) (now (maps .exit)) (now (relocations .exit)) (now (bytes .exit)) (now (order .exit)) ⌝ }
 {
     let lent = Room {
         sections: sections.len(),
@@ -433,13 +501,14 @@ pub fn load_core(
         relocations: relocations.len(),
         bytes: bytes.len(),
     };
-    match deposit::open(d) {
+    match opened {
         Opened::Refused(r) => refuse(r, sections, programs, maps, relocations, bytes),
-        Opened::Head(h) => {
-            let y = size(h.symbols);
+        Opened::View(v) => {
+            let y = size(v.symbols);
             load_sized(
                 d,
-                h,
+                t,
+                v,
                 entries,
                 patches,
                 rewrite,
@@ -450,6 +519,7 @@ pub fn load_core(
                 relocations,
                 bytes,
                 &mut order[0..y],
+                2,
             )
         }
     }

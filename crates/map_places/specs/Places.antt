@@ -11,7 +11,7 @@ use lib.ListN.{length, getD, take, drop, set, length-set}
 use lib.Seq.{slice, drop-at, set-append-left, getD-set-same, getD-set-other}
 use Rattle.lists.specs.Slice.{slice-next, slice-none}
 use Rattle.lists.specs.Tab.{tab, length-tab, getD-tab, tab-ext, is-tab}
-use Rattle.model.specs.declared.Head.{Head}
+use Rattle.object_view.specs.declared.View.{View}
 use Rattle.catalogue.specs.Numbers.{homeAt}
 use Rattle.catalogue.specs.Fits.{MapFits}
 
@@ -34,45 +34,45 @@ set-tab f n j v r h =
     at i m false e = getD-set-other (tab f n) j i v 0 (λ q. eqb-false j i e (sym q)) ∙ getD-tab f n i 0 m
 
 -- what stands behind the places is as it was
-pub cleared : (h : Head) (b₀ b : List ℕ) (s : ℕ) → s ≡ h .sections → b₀ ≡ tab (λ i. 0) s ++ drop s b → drop (h .sections) b₀ ≡ drop (h .sections) b
-cleared h b₀ b s e f = rw (f, e) (drop-at (tab (λ i. 0) (h .sections)) (drop (h .sections) b) (h .sections) (length-tab (λ i. 0) (h .sections)))
+pub cleared : (n : ℕ) (b₀ b : List ℕ) (s : ℕ) → s ≡ n → b₀ ≡ tab (λ i. 0) s ++ drop s b → drop n b₀ ≡ drop n b
+cleared n b₀ b s e f = rw (f, e) (drop-at (tab (λ i. 0) n) (drop n b) n (length-tab (λ i. 0) n))
 
-module _ (d : List ℕ) (gap : ℕ) (h : Head) where
+module _ (d t : List ℕ) (v : View) where
   -- the section that a map is made from, by number
   unfoldable pub mapHome : ℕ → ℕ
-  mapHome n = cond (ltb n (h .sections)) n (homeAt d gap h (n - h .sections))
+  mapHome n = cond (ltb n (v .sections)) n (homeAt d t v (n - v .sections))
 
-  pub home-below : (n : ℕ) → MapFits d gap h n → mapHome n < h .sections
+  pub home-below : (n : ℕ) → MapFits d t v n → mapHome n < v .sections
   unfolding mapHome
-  home-below n f = go (ltb n (h .sections)) refl
+  home-below n f = go (ltb n (v .sections)) refl
     where
-      go : (b : Bool) → ltb n (h .sections) ≡ b → cond b n (homeAt d gap h (n - h .sections)) < h .sections
-      go true e = ltb-true n (h .sections) e
-      go false e = f .home (ltb-false n (h .sections) e)
+      go : (b : Bool) → ltb n (v .sections) ≡ b → cond b n (homeAt d t v (n - v .sections)) < v .sections
+      go true e = ltb-true n (v .sections) e
+      go false e = f .home (ltb-false n (v .sections) e)
 
   -- for each section one more than the place of its first map, or 0
   unfoldable pub mapPlaces : List ℕ → List ℕ
-  mapPlaces ns = tab (λ i. placeFrom 0 i (map mapHome ns)) (h .sections)
+  mapPlaces ns = tab (λ i. placeFrom 0 i (map mapHome ns)) (v .sections)
 
   -- the same of the maps from place k on
   module _ (maps : List ℕ) (n : ℕ) where
     unfoldable pub placesFrom : ℕ → List ℕ
-    placesFrom k = tab (λ i. placeFrom k i (map mapHome (slice k n maps))) (h .sections)
+    placesFrom k = tab (λ i. placeFrom k i (map mapHome (slice k n maps))) (v .sections)
 
-    places-none : placesFrom n ≡ tab (λ i. 0) (h .sections)
+    places-none : placesFrom n ≡ tab (λ i. 0) (v .sections)
     unfolding placesFrom placeFrom
-    places-none = tab-ext _ _ (h .sections) (λ i l. rw (slice-none n n maps (omega arith)))
+    places-none = tab-ext _ _ (v .sections) (λ i l. rw (slice-none n n maps (omega arith)))
 
     -- the list of places, cleared
-    pub places-start : (b₀ b : List ℕ) (s : ℕ) → s ≡ h .sections → b₀ ≡ tab (λ i. 0) s ++ drop s b → b₀ ≡ placesFrom n ++ drop (h .sections) b₀
-    places-start b₀ b s e f = f ∙ rw (cleared h b₀ b s e f, places-none, e)
+    pub places-start : (b₀ b : List ℕ) (s : ℕ) → s ≡ v .sections → b₀ ≡ tab (λ i. 0) s ++ drop s b → b₀ ≡ placesFrom n ++ drop (v .sections) b₀
+    places-start b₀ b s e f = f ∙ rw (cleared (v .sections) b₀ b s e f, places-none, e)
 
-    pub places-more : (k : ℕ) (r : List ℕ) → k < n → n ≤ length maps → mapHome (getD maps k 0) < h .sections
+    pub places-more : (k : ℕ) (r : List ℕ) → k < n → n ≤ length maps → mapHome (getD maps k 0) < v .sections
         → set (placesFrom (k + 1) ++ r) (mapHome (getD maps k 0)) (k + 1) ≡ placesFrom k ++ r
     unfolding placesFrom placeFrom
     places-more k r l m b =
-        set-tab (λ i. placeFrom (k + 1) i (map mapHome (slice (k + 1) n maps))) (h .sections) (mapHome (getD maps k 0)) (k + 1) r b
-        ∙ ap (λ t. t ++ r) (tab-ext _ _ (h .sections) (λ i q. rw (slice-next k n maps 0 l m, add-one)))
+        set-tab (λ i. placeFrom (k + 1) i (map mapHome (slice (k + 1) n maps))) (v .sections) (mapHome (getD maps k 0)) (k + 1) r b
+        ∙ ap (λ t. t ++ r) (tab-ext _ _ (v .sections) (λ i q. rw (slice-next k n maps 0 l m, add-one)))
 
     pub places-all : placesFrom 0 ≡ mapPlaces (take n maps)
     unfolding placesFrom mapPlaces

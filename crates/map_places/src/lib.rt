@@ -4,12 +4,12 @@ ghost use mathlib.Core.List.{_++_};
 ghost use Prim.Native.Nat.{ℕ, _^_, _<_, _≤_};
 ghost use lib.ListN.{length, getD, take, drop};
 ghost use Rattle.lists.specs.Tab.{tab};
-ghost use Rattle.owner.specs.Owner.{Rise};
+ghost use Rattle.records.specs.Readable.{Readable};
 ghost use Rattle.catalogue.specs.Fits.{MapFits};
 ghost use Rattle.map_places.specs.Places.{mapHome, mapPlaces};
 ghost use Rattle.map_places.specs.Found.{placeOf};
-use model::Head;
 use model::SymbolRecord;
+use object_view::View;
 use owner::Owner;
 use owner::home;
 use owner::section_of;
@@ -17,14 +17,14 @@ use records::symbol;
 use stream::size;
 
 // The section that a map is made from.
-fn map_home(d: &[u8], gap: usize, h: Head, n: u32) -> u32
-    requires { ⌜ (gap ≤ 4) × Rise (now d) gap h ⌝ }
-    ensures { λ r. ⌜ r ≡ mapHome (now (d .entry)) gap h n ⌝ }
+fn map_home(d: &[u8], t: &[u32], v: View, n: u32) -> u32
+    requires { ⌜ Readable (now d) (now t) v ⌝ }
+    ensures { λ r. ⌜ r ≡ mapHome (now (d .entry)) (now (t .entry)) v n ⌝ }
 {
-    if n < h.sections {
+    if n < v.sections {
         n
     } else {
-        home(d, gap, h, symbol(d, gap, h, n - h.sections))
+        home(d, t, v, symbol(d, t, v, n - v.sections))
     }
 }
 
@@ -40,29 +40,29 @@ fn clear(by: &mut [u32], n: usize)
 }
 
 // From the last map to the first, so that a section keeps its first.
-pub fn maps_by_section(d: &[u8], gap: usize, h: Head, maps: &[u32], n: usize, by: &mut [u32])
-    requires { ⌜ (gap ≤ 4) × Rise (now d) gap h × (n ≤ length (now maps)) × (n < 2 ^ 32) × (h .sections ≤ length (now by)) × ((k : ℕ) → k < n → MapFits (now d) gap h (getD (now maps) k 0)) ⌝ }
-    ensures { λ r. ⌜ now (by .exit) ≡ mapPlaces (now (d .entry)) gap h (take n (now (maps .entry))) ++ drop (h .sections) (now (by .entry)) ⌝ }
+pub fn maps_by_section(d: &[u8], t: &[u32], v: View, maps: &[u32], n: usize, by: &mut [u32])
+    requires { ⌜ Readable (now d) (now t) v × (n ≤ length (now maps)) × (n < 2 ^ 32) × (v .sections ≤ length (now by)) × ((k : ℕ) → k < n → MapFits (now d) (now t) v (getD (now maps) k 0)) ⌝ }
+    ensures { λ r. ⌜ now (by .exit) ≡ mapPlaces (now (d .entry)) (now (t .entry)) v (take n (now (maps .entry))) ++ drop (v .sections) (now (by .entry)) ⌝ }
 {
-    clear(by, size(h.sections));
+    clear(by, size(v.sections));
     let mut k = n;
     while k > 0 {
-        let i = size(map_home(d, gap, h, maps[k - 1]));
+        let i = size(map_home(d, t, v, maps[k - 1]));
         by[i] = k as u32;
         k -= 1;
     }
 }
 
 // One more than the place of the first map that has a symbol's section, or 0.
-pub fn place_of(d: &[u8], gap: usize, h: Head, by: &[u32], y: SymbolRecord) -> usize
-    requires { ⌜ (gap ≤ 4) × Rise (now d) gap h × (h .sections ≤ length (now by)) ⌝ }
-    ensures { λ r. ⌜ r ≡ placeOf (now (d .entry)) gap h (now (by .entry)) y ⌝ }
+pub fn place_of(d: &[u8], t: &[u32], v: View, by: &[u32], y: SymbolRecord) -> usize
+    requires { ⌜ Readable (now d) (now t) v × (v .sections ≤ length (now by)) ⌝ }
+    ensures { λ r. ⌜ r ≡ placeOf (now (d .entry)) (now (t .entry)) v (now (by .entry)) y ⌝ }
 {
     let index = y.section;
     if index.0 == 0xFFFFFFFF {
         return 0;
     }
-    match section_of(d, gap, h, index) {
+    match section_of(d, t, v, index) {
         Owner::Section(i) => size(by[size(i)]),
         Owner::Nobody => 0,
     }

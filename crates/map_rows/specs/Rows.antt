@@ -6,7 +6,7 @@ use native.Mathlib.Omega.{arith}
 use lib.ListN.{length, getD, take, drop, replicate}
 use lib.Seq.{sets}
 use Rattle.model.specs.declared.BpfMapDef.{BpfMapDef}
-use Rattle.model.specs.declared.Head.{Head}
+use Rattle.object_view.specs.declared.View.{View}
 use Rattle.model.specs.Bytes.{each}
 use Rattle.model.specs.Catalogue.{Map}
 use Rattle.model.specs.Lent.{placed, joined, symbolNumber, mapName, mapOwn, mapRow}
@@ -58,19 +58,19 @@ row-length : (a b : ℕ) (m : Map) → length (mapRow a b m) ≡ 27
 unfolding mapRow
 row-length a b m = refl
 
-module _ (d : List ℕ) (gap : ℕ) (h : Head) where
+module _ (d t : List ℕ) (v : View) where
   -- their names lie one after the other from `at` on, their own bytes from `own` on
   abbrev pub mapRows : ℕ → ℕ → List ℕ → List ℕ
-  mapRows at own ns = joined (placed mapName mapOwn mapRow at own (map (mapAt d gap h) ns))
+  mapRows at own ns = joined (placed mapName mapOwn mapRow at own (map (mapAt d t v) ns))
 
   abbrev pub nameOf : ℕ → List ℕ
-  nameOf n = mapName (mapAt d gap h n)
+  nameOf n = mapName (mapAt d t v n)
 
   abbrev pub ownOf : ℕ → List ℕ
-  ownOf n = mapOwn (mapAt d gap h n)
+  ownOf n = mapOwn (mapAt d t v n)
 
   -- the row of the next number
-  module _ (order : List ℕ) (k : ℕ) (r : Row) (read : r ≡ rowOf (mapAt d gap h (getD order k 0))) where
+  module _ (order : List ℕ) (k : ℕ) (r : Row) (read : r ≡ rowOf (mapAt d t v (getD order k 0))) where
     -- where the name and the own bytes behind its lie
     pub place-next : (at place : ℕ) → place ≡ at + length (each nameOf (take k order)) → k < length order
         → place + r .length ≡ at + length (each nameOf (take (k + 1) order))
@@ -83,17 +83,17 @@ module _ (d : List ℕ) (gap : ℕ) (h : Head) where
     own-next own place e l = let g : r .own ≡ length (ownOf (getD order k 0)) = rw read in omega (arith, each-longer ownOf order 0 k l)
 
     -- one row more, in a table whose front are those of k maps
-    pub rows-more : (at own a b : ℕ) (t out : List ℕ) → a ≡ at + length (each nameOf (take k order)) → b ≡ own + length (each ownOf (take k order))
-        → k < length order → k * 27 + 27 ≤ length t → out ≡ mapRows at own (take k order) ++ drop (k * 27) t
-        → sets out (k * 27) (numbers a b r) ≡ mapRows at own (take (k + 1) order) ++ drop ((k + 1) * 27) t
-    rows-more at own a b t out ea eb l room q =
-        let row : List ℕ = rowAt mapName mapOwn mapRow (mapAt d gap h) order at own k in
+    pub rows-more : (at own a b : ℕ) (out₀ out : List ℕ) → a ≡ at + length (each nameOf (take k order)) → b ≡ own + length (each ownOf (take k order))
+        → k < length order → k * 27 + 27 ≤ length out₀ → out ≡ mapRows at own (take k order) ++ drop (k * 27) out₀
+        → sets out (k * 27) (numbers a b r) ≡ mapRows at own (take (k + 1) order) ++ drop ((k + 1) * 27) out₀
+    rows-more at own a b out₀ out ea eb l room q =
+        let row : List ℕ = rowAt mapName mapOwn mapRow (mapAt d t v) order at own k in
         let e : numbers a b r ≡ row =
         ap (numbers a b) read
-        ∙ row-numbers a b (mapAt d gap h (getD order k 0))
-        ∙ ap (λ (x : ℕ). mapRow x b (mapAt d gap h (getD order k 0))) ea
-        ∙ ap (λ (x : ℕ). mapRow (at + length (each nameOf (take k order))) x (mapAt d gap h (getD order k 0))) eb
+        ∙ row-numbers a b (mapAt d t v (getD order k 0))
+        ∙ ap (λ (x : ℕ). mapRow x b (mapAt d t v (getD order k 0))) ea
+        ∙ ap (λ (x : ℕ). mapRow (at + length (each nameOf (take k order))) x (mapAt d t v (getD order k 0))) eb
         in
         ap (sets out (k * 27)) e
         ∙ ap (λ (x : List ℕ). sets x (k * 27) row) q
-        ∙ placed-sets mapName mapOwn mapRow (mapAt d gap h) order at own 27 k t row-length l room
+        ∙ placed-sets mapName mapOwn mapRow (mapAt d t v) order at own 27 k out₀ row-length l room

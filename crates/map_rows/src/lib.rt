@@ -5,8 +5,7 @@ ghost use Prim.Native.Nat.{ℕ, _+_, _*_, _^_, _<_, _≤_};
 ghost use lib.ListN.{length, getD, take, drop};
 ghost use lib.Seq.{sets};
 ghost use Rattle.model.specs.SectionKind.{kindNumber};
-ghost use Rattle.owner.specs.Owner.{Rise};
-ghost use Rattle.own.specs.Own.{Sized};
+ghost use Rattle.records.specs.Readable.{Readable};
 ghost use Rattle.catalogue.specs.Fits.{MapFits};
 ghost use Rattle.catalogue.specs.Numbers.{mapAt};
 ghost use Rattle.map_rows.specs.Rows.{Read, words, numbers, mapRows};
@@ -16,11 +15,12 @@ use maps::parse_data_map_section;
 use maps::parse_map_def;
 use model::BpfMapDef;
 use model::EbpfSectionKind;
-use model::Head;
+use object_view::View;
 use own::own_length;
 use owner::home;
 use program_rows::put7;
-use records::data_at;
+use records::data_place;
+use records::gap;
 use records::section;
 use records::symbol;
 use stream::size;
@@ -57,49 +57,49 @@ fn kind_number(kind: EbpfSectionKind) -> u64
 }
 
 // The row of the map that section n is.
-fn data_row(d: &[u8], gap: usize, h: Head, n: u32) -> Row
-    requires { ⌜ (gap ≤ 4) × (n < h .sections) × Sized (now d) gap h ⌝ }
-    ensures { λ r. ⌜ Read (mapAt (now (d .entry)) gap h n) r ⌝ }
+fn data_row(d: &[u8], t: &[u32], v: View, n: u32) -> Row
+    requires { ⌜ (n < v .sections) × Readable (now d) (now t) v ⌝ }
+    ensures { λ r. ⌜ Read (mapAt (now (d .entry)) (now (t .entry)) v n) r ⌝ }
 {
-    let s = section(d, gap, n);
-    let kind = kind_of(d, gap, h, s);
+    let s = section(d, t, v, n);
+    let kind = kind_of(d, t, v, s);
     Row {
         length: size(s.name.length),
         section: wide64(s.index.0),
         kind: kind_number(kind),
         symbol: 0,
-        own: own_length(d, gap, h, n),
+        own: own_length(d, t, v, n),
         def: parse_data_map_section(kind, s.size),
     }
 }
 
 // The row of the map of symbol j.
-fn legacy_row(d: &[u8], gap: usize, h: Head, j: u32) -> Row
-    requires { ⌜ (gap ≤ 4) × Rise (now d) gap h × Within (now d) gap h j ⌝ }
-    ensures { λ r. ⌜ Read (legacyAt (now (d .entry)) gap h j) r ⌝ }
+fn legacy_row(d: &[u8], t: &[u32], v: View, j: u32) -> Row
+    requires { ⌜ Readable (now d) (now t) v × Within (now d) (now t) v j ⌝ }
+    ensures { λ r. ⌜ Read (legacyAt (now (d .entry)) (now (t .entry)) v j) r ⌝ }
 {
-    let y = symbol(d, gap, h, j);
-    let s = section(d, gap, home(d, gap, h, y));
-    let at = data_at(h) + size(s.bytes.at) + y.address as usize;
+    let y = symbol(d, t, v, j);
+    let s = section(d, t, v, home(d, t, v, y));
+    let at = data_place(v, s.bytes) + y.address as usize;
     Row {
         length: size(y.name.length),
         section: wide64(s.index.0),
         kind: kind_number(EbpfSectionKind::Maps),
         symbol: wide64(y.index.0),
         own: 0,
-        def: parse_map_def(d, gap, at, y.size as usize),
+        def: parse_map_def(d, gap(v), at, y.size as usize),
     }
 }
 
-fn map_row(d: &[u8], gap: usize, h: Head, n: u32) -> Row
-    requires { ⌜ (gap ≤ 4) × Rise (now d) gap h × MapFits (now d) gap h n × Sized (now d) gap h ⌝ }
-    ensures { λ r. ⌜ Read (mapAt (now (d .entry)) gap h n) r ⌝ }
+fn map_row(d: &[u8], t: &[u32], v: View, n: u32) -> Row
+    requires { ⌜ Readable (now d) (now t) v × MapFits (now d) (now t) v n ⌝ }
+    ensures { λ r. ⌜ Read (mapAt (now (d .entry)) (now (t .entry)) v n) r ⌝ }
 {
-    let sections = h.sections;
+    let sections = v.sections;
     if n < sections {
-        data_row(d, gap, h, n)
+        data_row(d, t, v, n)
     } else {
-        legacy_row(d, gap, h, n - sections)
+        legacy_row(d, t, v, n - sections)
     }
 }
 
@@ -147,22 +147,22 @@ fn put_row(t: &mut [u64], i: usize, place: usize, own: usize, r: Row)
 // The rows of the first n maps of `order`: their names lie one after the other from `at` on, their own bytes from `own` on.
 pub fn put_map_rows(
     d: &[u8],
-    gap: usize,
-    h: Head,
+    t: &[u32],
+    v: View,
     order: &[u32],
     n: usize,
     at: usize,
     own: usize,
     out: &mut [u64],
 )
-    requires { ⌜ (gap ≤ 4) × Rise (now d) gap h × (n ≤ length (now order)) × (n < 2 ^ 20) × (at < 2 ^ 62) × (own < 2 ^ 62) × (n * 27 ≤ length (now out)) × ((k : ℕ) → k < n → MapFits (now d) gap h (getD (now order) k 0)) × Sized (now d) gap h ⌝ }
-    ensures { λ r. ⌜ now (out .exit) ≡ mapRows (now (d .entry)) gap h at own (take n (now (order .entry))) ++ drop (n * 27) (now (out .entry)) ⌝ }
+    requires { ⌜ Readable (now d) (now t) v × (n ≤ length (now order)) × (n < 2 ^ 20) × (at < 2 ^ 62) × (own < 2 ^ 62) × (n * 27 ≤ length (now out)) × ((k : ℕ) → k < n → MapFits (now d) (now t) v (getD (now order) k 0)) ⌝ }
+    ensures { λ r. ⌜ now (out .exit) ≡ mapRows (now (d .entry)) (now (t .entry)) v at own (take n (now (order .entry))) ++ drop (n * 27) (now (out .entry)) ⌝ }
 {
     let mut place = at;
     let mut own_place = own;
     let mut k: usize = 0;
     while k < n {
-        let r = map_row(d, gap, h, order[k]);
+        let r = map_row(d, t, v, order[k]);
         put_row(out, k * 27, place, own_place, r);
         place += r.length;
         own_place += r.own;

@@ -5,7 +5,7 @@ use mathlib.Core.List.{List, [], map}
 use mathlib.Core.Option.{some}
 use Prim.Native.Nat.{ℕ, _<_}
 use lib.ListN.{length}
-use Rattle.model.specs.declared.Head.{Head}
+use Rattle.object_view.specs.declared.View.{View}
 use Rattle.model.specs.declared.SectionRecord.{SectionRecord}
 use Rattle.model.specs.Bytes.{firstIn}
 use Rattle.model.specs.Object.{Section, Object}
@@ -23,17 +23,17 @@ module _ (o : Object) (s : Section) where
   unfolding mapsRefusal
   others e = rw e
 
-module _ (d : List ℕ) (gap : ℕ) (h : Head) (s : SectionRecord) (js : List ℕ) (group : js ≡ membersIn d gap h s) where
-  symbols : symbolsOf (objectIn d gap h) (sectionFrom d gap h s) ≡ map (symbolIn d gap h) js
-  symbols = symbols-in d gap h s ∙ ap (map (symbolIn d gap h)) (sym group)
+module _ (d t : List ℕ) (v : View) (s : SectionRecord) (js : List ℕ) (group : js ≡ membersIn d t v s) where
+  symbols : symbolsOf (objectIn d t v) (sectionFrom d t v s) ≡ map (symbolIn d t v) js
+  symbols = symbols-in d t v s ∙ ap (map (symbolIn d t v)) (sym group)
 
   pub refused-empty : js ≡ []
-      → mapsRefusal (objectIn d gap h) (sectionFrom d gap h s) ≡ some (record { number = 9; section = s .index; symbol = noSymbol; entry = 0 })
+      → mapsRefusal (objectIn d t v) (sectionFrom d t v s) ≡ some (record { number = 9; section = s .index; symbol = noSymbol; entry = 0 })
   unfolding sectionFrom
-  refused-empty e = empty (objectIn d gap h) (sectionFrom d gap h s) (symbols ∙ ap (map (symbolIn d gap h)) e)
+  refused-empty e = empty (objectIn d t v) (sectionFrom d t v s) (symbols ∙ ap (map (symbolIn d t v)) e)
 
   pub refused-symbols : 0 < length js
-      → mapsRefusal (objectIn d gap h) (sectionFrom d gap h s) ≡ firstIn (mapSymbolRefusal (sectionFrom d gap h s)) (map (symbolIn d gap h) js)
+      → mapsRefusal (objectIn d t v) (sectionFrom d t v s) ≡ firstIn (mapSymbolRefusal (sectionFrom d t v s)) (map (symbolIn d t v) js)
   refused-symbols l =
-      others (objectIn d gap h) (sectionFrom d gap h s) (ap isEmpty symbols ∙ some-symbol d gap h js l)
-      ∙ ap (firstIn (mapSymbolRefusal (sectionFrom d gap h s))) symbols
+      others (objectIn d t v) (sectionFrom d t v s) (ap isEmpty symbols ∙ some-symbol d t v js l)
+      ∙ ap (firstIn (mapSymbolRefusal (sectionFrom d t v s))) symbols

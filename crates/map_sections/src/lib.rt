@@ -10,17 +10,15 @@ ghost use Rattle.view.specs.Checked.{checkedOf};
 ghost use Rattle.view.specs.Group.{membersIn};
 ghost use Rattle.view.specs.View.{sectionFrom, symbolIn, objectIn};
 ghost use Rattle.map_sections.specs.Fault.{mapFault, mapNumbers};
-use model::Head;
 use model::SectionRecord;
 use model::SymbolRecord;
-use stream::size;
+use object_view::View;
 use stream::wide64;
 use view::Checked;
 
 // What refuses a map's symbol: 10 or 16, else 0. No sum is made before 10 is ruled out, so none can wrap.
-fn map_fault(d: &[u8], gap: usize, h: Head, s: SectionRecord, y: SymbolRecord) -> u32
-    requires { ⌜ gap ≤ 4 ⌝ }
-    ensures { λ r. ⌜ r ≡ mapFault (now (d .entry)) gap h s y ⌝ }
+fn map_fault(d: &[u8], v: View, s: SectionRecord, y: SymbolRecord) -> u32
+    ensures { λ r. ⌜ r ≡ mapFault (now (d .entry)) v s y ⌝ }
 {
     let length = wide64(s.bytes.length);
     if length < y.address {
@@ -29,8 +27,8 @@ fn map_fault(d: &[u8], gap: usize, h: Head, s: SectionRecord, y: SymbolRecord) -
     if length - y.address < y.size {
         return 10;
     }
-    let at = records::data_at(h) + size(s.bytes.at) + y.address as usize;
-    let def = maps::parse_map_def(d, gap, at, y.size as usize);
+    let at = records::data_place(v, s.bytes) + y.address as usize;
+    let def = maps::parse_map_def(d, records::gap(v), at, y.size as usize);
     if maps::invalid_map_definition(y.size, def) {
         16
     } else {
@@ -41,20 +39,20 @@ fn map_fault(d: &[u8], gap: usize, h: Head, s: SectionRecord, y: SymbolRecord) -
 // The first refusal of a symbol of a group.
 pub fn map_symbols(
     d: &[u8],
-    gap: usize,
-    h: Head,
+    t: &[u32],
+    v: View,
     s: SectionRecord,
     order: &[u32],
     lo: usize,
     hi: usize,
 ) -> Checked
-    requires { ⌜ (gap ≤ 4) × (hi ≤ length (now order)) ⌝ }
-    ensures { λ r. ⌜ r ≡ checkedOf (firstIn (mapSymbolRefusal (sectionFrom (now (d .entry)) gap h s)) (map (symbolIn (now (d .entry)) gap h) (slice lo hi (now (order .entry))))) ⌝ }
+    requires { ⌜ hi ≤ length (now order) ⌝ }
+    ensures { λ r. ⌜ r ≡ checkedOf (firstIn (mapSymbolRefusal (sectionFrom (now (d .entry)) (now (t .entry)) v s)) (map (symbolIn (now (d .entry)) (now (t .entry)) v) (slice lo hi (now (order .entry))))) ⌝ }
 {
     let mut i = lo;
     while i < hi {
-        let y = records::symbol(d, gap, h, order[i]);
-        let fault = map_fault(d, gap, h, s, y);
+        let y = records::symbol(d, t, v, order[i]);
+        let fault = map_fault(d, v, s, y);
         if fault != 0 {
             return view::of_symbol(fault, s, y);
         }
@@ -66,29 +64,35 @@ pub fn map_symbols(
 // What refuses a `maps` section; the group is that of its symbols.
 pub fn parse_maps_section(
     d: &[u8],
-    gap: usize,
-    h: Head,
+    t: &[u32],
+    v: View,
     s: SectionRecord,
     order: &[u32],
     lo: usize,
     hi: usize,
 ) -> Checked
-    requires { ⌜ (gap ≤ 4) × (hi ≤ length (now order)) × (slice lo hi (now order) ≡ membersIn (now d) gap h s) ⌝ }
-    ensures { λ r. ⌜ r ≡ checkedOf (mapsRefusal (objectIn (now (d .entry)) gap h) (sectionFrom (now (d .entry)) gap h s)) ⌝ }
+    requires { ⌜ (hi ≤ length (now order)) × (slice lo hi (now order) ≡ membersIn (now d) (now t) v s) ⌝ }
+    ensures { λ r. ⌜ r ≡ checkedOf (mapsRefusal (objectIn (now (d .entry)) (now (t .entry)) v) (sectionFrom (now (d .entry)) (now (t .entry)) v s)) ⌝ }
 {
     if hi <= lo {
         view::of_section(9, s)
     } else {
-        map_symbols(d, gap, h, s, order, lo, hi)
+        map_symbols(d, t, v, s, order, lo, hi)
     }
 }
 
 // Appends the numbers of a group's maps to the first w of out: symbols are counted on from the sections.
-pub fn map_numbers(h: Head, order: &[u32], lo: usize, hi: usize, out: &mut [u32], w: usize) -> usize
-    requires { ⌜ (lo ≤ hi) × (hi ≤ length (now order)) × (w + (hi - lo) ≤ length (now out)) × ((k : ℕ) → lo ≤ k → k < hi → h .sections + getD (now order) k 0 < 2 ^ 32) ⌝ }
-    ensures { λ r. ⌜ (r ≡ w + length (mapNumbers (h .sections) (slice lo hi (now (order .entry))))) × (now (out .exit) ≡ take w (now (out .entry)) ++ (mapNumbers (h .sections) (slice lo hi (now (order .entry))) ++ drop r (now (out .entry)))) ⌝ }
+pub fn map_numbers(
+    sections: u32,
+    order: &[u32],
+    lo: usize,
+    hi: usize,
+    out: &mut [u32],
+    w: usize,
+) -> usize
+    requires { ⌜ (lo ≤ hi) × (hi ≤ length (now order)) × (w + (hi - lo) ≤ length (now out)) × ((k : ℕ) → lo ≤ k → k < hi → sections + getD (now order) k 0 < 2 ^ 32) ⌝ }
+    ensures { λ r. ⌜ (r ≡ w + length (mapNumbers sections (slice lo hi (now (order .entry))))) × (now (out .exit) ≡ take w (now (out .entry)) ++ (mapNumbers sections (slice lo hi (now (order .entry))) ++ drop r (now (out .entry)))) ⌝ }
 {
-    let sections = h.sections;
     let mut n = w;
     let mut i = lo;
     while i < hi {

@@ -6,14 +6,15 @@ ghost use lib.ListN.{length, take, drop};
 ghost use Rattle.model.specs.Bytes.{each};
 ghost use Rattle.model.specs.declared.EbpfSectionKind.{EbpfSectionKind as Kind};
 ghost use Rattle.model.specs.SectionKind.{isKind};
-ghost use Rattle.pieces.specs.Inside.{DataPlaced};
-ghost use Rattle.own.specs.Own.{ownOf, ownBytes, Sized};
+ghost use Rattle.records.specs.Readable.{Readable};
+ghost use Rattle.own.specs.Own.{ownOf, ownBytes};
 use lists::zero8;
 use model::EbpfSectionKind;
 use model::Extent;
-use model::Head;
+use object_view::View;
 use pieces::copy_stream;
-use records::data_at;
+use records::data_place;
+use records::gap;
 use records::section;
 use stream::size;
 use view::kind_of;
@@ -35,13 +36,12 @@ fn is_bss(kind: EbpfSectionKind) -> bool
 }
 
 // A number below the count of sections is a section's; a symbol's map owns nothing.
-fn own_of(d: &[u8], gap: usize, h: Head, n: u32) -> Own
-    requires { ⌜ gap ≤ 4 ⌝ }
-    ensures { λ r. ⌜ r ≡ ownOf (now (d .entry)) gap h n ⌝ }
+fn own_of(d: &[u8], t: &[u32], v: View, n: u32) -> Own
+    ensures { λ r. ⌜ r ≡ ownOf (now (d .entry)) (now (t .entry)) v n ⌝ }
 {
-    if n < h.sections {
-        let s = section(d, gap, n);
-        if is_bss(kind_of(d, gap, h, s)) {
+    if n < v.sections {
+        let s = section(d, t, v, n);
+        if is_bss(kind_of(d, t, v, s)) {
             Own::Zeros(s.size as usize)
         } else {
             let bytes = s.bytes;
@@ -53,11 +53,10 @@ fn own_of(d: &[u8], gap: usize, h: Head, n: u32) -> Own
 }
 
 // How many bytes map number n owns.
-pub fn own_length(d: &[u8], gap: usize, h: Head, n: u32) -> usize
-    requires { ⌜ gap ≤ 4 ⌝ }
-    ensures { λ r. ⌜ (r ≡ length (ownBytes (now (d .entry)) gap h n)) × (Sized (now (d .entry)) gap h → r < 2 ^ 32) ⌝ }
+pub fn own_length(d: &[u8], t: &[u32], v: View, n: u32) -> usize
+    ensures { λ r. ⌜ (r ≡ length (ownBytes (now (d .entry)) (now (t .entry)) v n)) × (Readable (now (d .entry)) (now (t .entry)) v → r < 2 ^ 32) ⌝ }
 {
-    match own_of(d, gap, h, n) {
+    match own_of(d, t, v, n) {
         Own::Nothing => 0,
         Own::Zeros(len) => len,
         Own::Bytes(e) => size(e.length),
@@ -65,25 +64,25 @@ pub fn own_length(d: &[u8], gap: usize, h: Head, n: u32) -> usize
 }
 
 // How many bytes the maps of the first n numbers own.
-pub fn total(d: &[u8], gap: usize, h: Head, order: &[u32], n: usize) -> usize
-    requires { ⌜ (gap ≤ 4) × (n ≤ length (now order)) × (n ≤ 69632) × Sized (now d) gap h ⌝ }
-    ensures { λ r. ⌜ r ≡ length (each (ownBytes (now (d .entry)) gap h) (take n (now (order .entry)))) ⌝ }
+pub fn total(d: &[u8], t: &[u32], v: View, order: &[u32], n: usize) -> usize
+    requires { ⌜ (n ≤ length (now order)) × (n ≤ 69632) × Readable (now d) (now t) v ⌝ }
+    ensures { λ r. ⌜ r ≡ length (each (ownBytes (now (d .entry)) (now (t .entry)) v) (take n (now (order .entry)))) ⌝ }
 {
     let mut sum: usize = 0;
     let mut k: usize = 0;
     while k < n {
-        sum += own_length(d, gap, h, order[k]);
+        sum += own_length(d, t, v, order[k]);
         k += 1;
     }
     sum
 }
 
 // What map number n owns into out, from `at` on; where it ends.
-fn put_own(d: &[u8], gap: usize, h: Head, n: u32, out: &mut [u8], at: usize) -> usize
-    requires { ⌜ (gap ≤ 4) × DataPlaced (now d) gap h × (at + length (ownBytes (now d) gap h n) ≤ length (now out)) ⌝ }
-    ensures { λ r. ⌜ (r ≡ at + length (ownBytes (now (d .entry)) gap h n)) × (now (out .exit) ≡ take at (now (out .entry)) ++ (ownBytes (now (d .entry)) gap h n ++ drop r (now (out .entry)))) ⌝ }
+fn put_own(d: &[u8], t: &[u32], v: View, n: u32, out: &mut [u8], at: usize) -> usize
+    requires { ⌜ Readable (now d) (now t) v × (at + length (ownBytes (now d) (now t) v n) ≤ length (now out)) ⌝ }
+    ensures { λ r. ⌜ (r ≡ at + length (ownBytes (now (d .entry)) (now (t .entry)) v n)) × (now (out .exit) ≡ take at (now (out .entry)) ++ (ownBytes (now (d .entry)) (now (t .entry)) v n ++ drop r (now (out .entry)))) ⌝ }
 {
-    match own_of(d, gap, h, n) {
+    match own_of(d, t, v, n) {
         Own::Nothing => at,
         Own::Zeros(len) => {
             let end = at + len;
@@ -92,7 +91,7 @@ fn put_own(d: &[u8], gap: usize, h: Head, n: u32, out: &mut [u8], at: usize) -> 
         }
         Own::Bytes(e) => {
             let len = size(e.length);
-            copy_stream(d, gap, data_at(h) + size(e.at), len, out, at);
+            copy_stream(d, gap(v), data_place(v, e), len, out, at);
             at + len
         }
     }
@@ -101,20 +100,20 @@ fn put_own(d: &[u8], gap: usize, h: Head, n: u32, out: &mut [u8], at: usize) -> 
 // Those of the first n numbers one after the other into out, from `at` on; where they end.
 pub fn put(
     d: &[u8],
-    gap: usize,
-    h: Head,
+    t: &[u32],
+    v: View,
     order: &[u32],
     n: usize,
     out: &mut [u8],
     at: usize,
 ) -> usize
-    requires { ⌜ (gap ≤ 4) × (n ≤ length (now order)) × DataPlaced (now d) gap h × (at + length (each (ownBytes (now d) gap h) (take n (now order))) ≤ length (now out)) ⌝ }
-    ensures { λ r. ⌜ (r ≡ at + length (each (ownBytes (now (d .entry)) gap h) (take n (now (order .entry))))) × (now (out .exit) ≡ take at (now (out .entry)) ++ (each (ownBytes (now (d .entry)) gap h) (take n (now (order .entry))) ++ drop r (now (out .entry)))) ⌝ }
+    requires { ⌜ (n ≤ length (now order)) × Readable (now d) (now t) v × (at + length (each (ownBytes (now d) (now t) v) (take n (now order))) ≤ length (now out)) ⌝ }
+    ensures { λ r. ⌜ (r ≡ at + length (each (ownBytes (now (d .entry)) (now (t .entry)) v) (take n (now (order .entry))))) × (now (out .exit) ≡ take at (now (out .entry)) ++ (each (ownBytes (now (d .entry)) (now (t .entry)) v) (take n (now (order .entry))) ++ drop r (now (out .entry)))) ⌝ }
 {
     let mut o = at;
     let mut k: usize = 0;
     while k < n {
-        o = put_own(d, gap, h, order[k], out, o);
+        o = put_own(d, t, v, order[k], out, o);
         k += 1;
     }
     o

@@ -9,13 +9,14 @@ use native.Mathlib.Nat.{le-refl, eq-or-lt-of-le, lt-trans, le-trans, le-of-lt}
 use native.Mathlib.Omega.{arith}
 use borrow.Author.Tests.{eq-eqb, ne-eqb, ltb-true, ltb-false}
 use lib.Dec.{eqb, ltb}
-use Rattle.model.specs.declared.Head.{Head}
+use Rattle.object_view.specs.declared.View.{View}
 use Rattle.model.specs.declared.SymbolRecord.{SymbolRecord}
 use Rattle.model.specs.Bytes.{maybe}
-use Rattle.model.specs.Deposit.{unlessNone, byteOrder}
-use Rattle.records.specs.Records.{sectionAt, symbolAt}
-use Rattle.plan.specs.SectionsPrograms.{Rising, owner, owner-is, none-up, home}
-use Rattle.view.specs.View.{sectionFrom, symbolFrom, sectionIn, symbolIn}
+use Rattle.model.specs.Deposit.{unlessNone}
+use Rattle.records.specs.View.{sectionAt, symbolAt}
+use Rattle.records.specs.Readable.{SectionsRise}
+use Rattle.plan.specs.SectionsPrograms.{owner, owner-is, none-up, home}
+use Rattle.view.specs.View.{sectionFrom, symbolFrom, sectionIn, symbolIn, rising}
 use Rattle.owner.specs.declared.Owner.{Owner}
 
 abbrev pub ownerOf : Option ℕ → Owner
@@ -26,60 +27,52 @@ abbrev pub numberOf : Owner → ℕ
 numberOf Owner.Nobody = 0
 numberOf (Owner.Section i) = i
 
-module _ (d : List ℕ) (gap : ℕ) (h : Head) where
-  -- the indexes of the section records rise
-  abbrev pub Rise : Type 0
-  Rise = (i j : ℕ) → i < j → j < h .sections → sectionAt d gap i .index .0 < sectionAt d gap j .index .0
-
+module _ (d t : List ℕ) (v : View) where
   -- r records have indexes below k, and no other
   pub record First (k r : ℕ) : Type 0 where
-    pub within : r ≤ h .sections
-    pub below : (i : ℕ) → i < r → sectionAt d gap i .index .0 < k
-    pub above : (i : ℕ) → r ≤ i → i < h .sections → k ≤ sectionAt d gap i .index .0
+    pub within : r ≤ v .sections
+    pub below : (i : ℕ) → i < r → sectionAt d t v i .index .0 < k
+    pub above : (i : ℕ) → r ≤ i → i < v .sections → k ≤ sectionAt d t v i .index .0
 
   -- what holds of record m's index holds of those below it, or of those above
-  module _ (rise : Rise) (k m : ℕ) where
-    pub all-below : m < h .sections → sectionAt d gap m .index .0 < k → (i : ℕ) → i < m + 1 → sectionAt d gap i .index .0 < k
+  module _ (rise : SectionsRise d t v) (k m : ℕ) where
+    pub all-below : m < v .sections → sectionAt d t v m .index .0 < k → (i : ℕ) → i < m + 1 → sectionAt d t v i .index .0 < k
     all-below l q i n =
         let e : i ≤ m = omega arith in ⊎-elim (λ e. rw e q) (λ t. lt-trans (rise i m t l) q) (eq-or-lt-of-le e)
 
-    pub all-above : k ≤ sectionAt d gap m .index .0 → (i : ℕ) → m ≤ i → i < h .sections → k ≤ sectionAt d gap i .index .0
+    pub all-above : k ≤ sectionAt d t v m .index .0 → (i : ℕ) → m ≤ i → i < v .sections → k ≤ sectionAt d t v i .index .0
     all-above q i n l = ⊎-elim (λ e. rw (← e) q) (λ t. le-trans q (le-of-lt (rise m i t l))) (eq-or-lt-of-le n)
 
   -- the number of the section that has index k
   abbrev pub ownerIn : ℕ → Option ℕ
-  ownerIn k = owner (byteOrder (h .order)) (sectionIn d gap h) (h .sections) (symbolIn d gap h) (h .symbols) k
+  ownerIn k = owner (v .order) (sectionIn d t v) (v .sections) (symbolIn d t v) (v .symbols) k
 
   -- the section that a symbol lies in, by its record; 0 where there is none
   abbrev pub homeOf : SymbolRecord → ℕ
   homeOf y = maybe (unlessNone (y .section .0) (y .section)) 0 (λ k. maybe (ownerIn (k .0)) 0 (λ i. i))
 
-  pub home-by-record : (j : ℕ) → home (byteOrder (h .order)) (sectionIn d gap h) (h .sections) (symbolIn d gap h) (h .symbols) j ≡ homeOf (symbolAt d gap h j)
+  pub home-by-record : (j : ℕ) → home (v .order) (sectionIn d t v) (v .sections) (symbolIn d t v) (v .symbols) j ≡ homeOf (symbolAt d t v j)
   unfolding symbolFrom
   home-by-record j = refl
 
-  pub rising : Rise → Rising (byteOrder (h .order)) (sectionIn d gap h) (h .sections) (symbolIn d gap h) (h .symbols)
+  owned : SectionsRise d t v → (i : ℕ) → i < v .sections → ownerIn (sectionAt d t v i .index .0) ≡ some i
   unfolding sectionFrom
-  rising rise = rise
+  owned rise i l = owner-is (v .order) (sectionIn d t v) (v .sections) (symbolIn d t v) (v .symbols) (rising d t v rise) i l
 
-  owned : Rise → (i : ℕ) → i < h .sections → ownerIn (sectionAt d gap i .index .0) ≡ some i
-  unfolding sectionFrom
-  owned rise i l = owner-is (byteOrder (h .order)) (sectionIn d gap h) (h .sections) (symbolIn d gap h) (h .symbols) (rising rise) i l
-
-  nobody : (k : ℕ) → ((i : ℕ) → i < h .sections → sectionAt d gap i .index .0 ≡ k → ⊥) → ownerIn k ≡ none
+  nobody : (k : ℕ) → ((i : ℕ) → i < v .sections → sectionAt d t v i .index .0 ≡ k → ⊥) → ownerIn k ≡ none
   unfolding owner sectionFrom
   nobody k n =
-      none-up (byteOrder (h .order)) (sectionIn d gap h) (h .sections) (symbolIn d gap h) (h .symbols) (λ i. eqb (sectionAt d gap i .index .0) k) (h .sections)
-      (λ i l. ne-eqb (sectionAt d gap i .index .0) k (n i l))
+      none-up (v .order) (sectionIn d t v) (v .sections) (symbolIn d t v) (v .symbols) (λ i. eqb (sectionAt d t v i .index .0) k) (v .sections)
+      (λ i l. ne-eqb (sectionAt d t v i .index .0) k (n i l))
 
-  module _ (rise : Rise) (k r : ℕ) where
-    pub found : r < h .sections → sectionAt d gap r .index .0 ≡ k → ownerOf (ownerIn k) ≡ Owner.Section r
+  module _ (rise : SectionsRise d t v) (k r : ℕ) where
+    pub found : r < v .sections → sectionAt d t v r .index .0 ≡ k → ownerOf (ownerIn k) ≡ Owner.Section r
     found l e = rw (← e, owned rise r l)
 
-    pub not-found : First k r → (r < h .sections → sectionAt d gap r .index .0 ≡ k → ⊥) → ownerOf (ownerIn k) ≡ Owner.Nobody
+    pub not-found : First k r → (r < v .sections → sectionAt d t v r .index .0 ≡ k → ⊥) → ownerOf (ownerIn k) ≡ Owner.Nobody
     not-found f n = rw (nobody k none-has)
       where
-        none-has : (i : ℕ) → i < h .sections → sectionAt d gap i .index .0 ≡ k → ⊥
+        none-has : (i : ℕ) → i < v .sections → sectionAt d t v i .index .0 ≡ k → ⊥
         none-has i l e = go (ltb i r) refl
           where
             go : (b : Bool) → ltb i r ≡ b → ⊥

@@ -10,7 +10,7 @@ use borrow.Author.Tests.{ltb-true, ltb-false, lt-ltb, le-ltb}
 use lib.Dec.{ltb}
 use lib.ListN.{length, getD}
 use Rattle.lists.specs.Tests.{true-not-false}
-use Rattle.model.specs.declared.Head.{Head}
+use Rattle.object_view.specs.declared.View.{View}
 use Rattle.model.specs.declared.EbpfSectionKind.{EbpfSectionKind as Kind}
 use Rattle.model.specs.Bytes.{before, keep, _∈_}
 use Rattle.model.specs.Contents.{isData}
@@ -24,10 +24,11 @@ use Rattle.plan.specs.FunctionsMaps.{mapsIn, all-∈, all-rows}
 use Rattle.plan.specs.Numbers.{upTo}
 use Rattle.plan.specs.SectionsPrograms.{All, all-keep, home-is}
 use Rattle.plan.specs.Tables.{table-members}
-use Rattle.view.specs.View.{sectionIn, symbolIn}
+use Rattle.view.specs.View.{sectionIn, symbolIn, rising}
 use Rattle.keys.specs.declared.By.{By}
 use Rattle.keys.specs.Keys.{keyOf}
-use Rattle.catalogue.specs.Numbers.{homeAt, mapsFrom, mapCandidates, mapNumbers, Rises}
+use Rattle.catalogue.specs.Numbers.{homeAt, mapsFrom, mapCandidates, mapNumbers}
+use Rattle.records.specs.Readable.{Readable}
 use Rattle.map_places.specs.Places.{mapHome}
 
 -- ---- a table has no number twice
@@ -58,75 +59,75 @@ module _ (key : ℕ → List ℕ) where
 
 -- ---- the numbers of the map table
 
-module _ (d : List ℕ) (gap : ℕ) (h : Head) where
+module _ (d t : List ℕ) (v : View) where
   -- of some map numbers
   abbrev pub Alone : List ℕ → Type 0
-  Alone ns = (q r : ℕ) → q < length ns → r < length ns → getD ns q 0 < h .sections → mapHome d gap h (getD ns r 0) ≡ mapHome d gap h (getD ns q 0) → r ≡ q
+  Alone ns = (q r : ℕ) → q < length ns → r < length ns → getD ns q 0 < v .sections → mapHome d t v (getD ns r 0) ≡ mapHome d t v (getD ns q 0) → r ≡ q
 
   abbrev isMaps : ℕ → Bool
-  isMaps i = isKind Kind.Maps (kindOf (sectionIn d gap h i))
+  isMaps i = isKind Kind.Maps (kindOf (sectionIn d t v i))
 
   -- only a symbol's map is made from a `maps` section
   pub record Kinded (n : ℕ) : Type 0 where
-    pub own : n < h .sections → isMaps (mapHome d gap h n) ≡ false
-    pub other : h .sections ≤ n → isMaps (mapHome d gap h n) ≡ true
+    pub own : n < v .sections → isMaps (mapHome d t v n) ≡ false
+    pub other : v .sections ≤ n → isMaps (mapHome d t v n) ≡ true
 
   all-map : (P : ℕ → Type 0) (f : ℕ → ℕ) (l : List ℕ) → All (λ j. P (f j)) l → All P (map f l)
   all-map P f [] a = tt
   all-map P f (x ∷ l) a = (a .0, all-map P f l (a .1))
 
-  symbol-kinded : (i j : ℕ) → isMaps i ≡ true → homeAt d gap h j ≡ i → Kinded (h .sections + j)
+  symbol-kinded : (i j : ℕ) → isMaps i ≡ true → homeAt d t v j ≡ i → Kinded (v .sections + j)
   unfolding mapHome
   symbol-kinded i j m e =
-      let f : ltb (h .sections + j) (h .sections) ≡ false = le-ltb (h .sections + j) (h .sections) (omega arith) in
-      let g : h .sections + j - h .sections ≡ j = omega arith in
+      let f : ltb (v .sections + j) (v .sections) ≡ false = le-ltb (v .sections + j) (v .sections) (omega arith) in
+      let g : v .sections + j - v .sections ≡ j = omega arith in
       record { own = λ l. let no : ⊥ = omega arith in absurd no; other = λ l. rw (f, g, e) m }
 
-  section-kinded : (i : ℕ) → i < h .sections → isMaps i ≡ false → Kinded i
+  section-kinded : (i : ℕ) → i < v .sections → isMaps i ≡ false → Kinded i
   unfolding mapHome
-  section-kinded i l m = let f : ltb i (h .sections) ≡ true = lt-ltb i (h .sections) l in record { own = λ k. rw f m; other = λ k. let no : ⊥ = omega arith in absurd no }
+  section-kinded i l m = let f : ltb i (v .sections) ≡ true = lt-ltb i (v .sections) l in record { own = λ k. rw f m; other = λ k. let no : ⊥ = omega arith in absurd no }
 
   abbrev liesAt : ℕ → ℕ → Bool
-  liesAt i j = liesIn (sectionIn d gap h i .index) (symbolIn d gap h j .section)
+  liesAt i j = liesIn (sectionIn d t v i .index) (symbolIn d t v j .section)
 
-  kinded-in : Rises d gap h → (i : ℕ) → i < h .sections → All Kinded (mapsFrom d gap h i)
+  kinded-in : Readable d t v → (i : ℕ) → i < v .sections → All Kinded (mapsFrom d t v i)
   unfolding mapsIn members
-  kinded-in rise i l = go (isMaps i) (isData (kindOf (sectionIn d gap h i))) refl
+  kinded-in readable i l = go (isMaps i) (isData (kindOf (sectionIn d t v i))) refl
     where
       go : (b c : Bool) → isMaps i ≡ b
-          → All Kinded (cond b (map (λ j. h .sections + j) (keep (liesAt i) (upTo (h .symbols)))) (cond c (i ∷ []) []))
+          → All Kinded (cond b (map (λ j. v .sections + j) (keep (liesAt i) (upTo (v .symbols)))) (cond c (i ∷ []) []))
       go true c m =
-          all-map Kinded (λ j. h .sections + j) (keep (liesAt i) (upTo (h .symbols)))
-          (all-keep (λ j. Kinded (h .sections + j)) (liesAt i) (upTo (h .symbols))
-          (λ j q. symbol-kinded i j m (home-is (byteOrder (h .order)) (sectionIn d gap h) (h .sections) (symbolIn d gap h) (h .symbols) rise i j l q)))
+          all-map Kinded (λ j. v .sections + j) (keep (liesAt i) (upTo (v .symbols)))
+          (all-keep (λ j. Kinded (v .sections + j)) (liesAt i) (upTo (v .symbols))
+          (λ j q. symbol-kinded i j m (home-is (v .order) (sectionIn d t v) (v .sections) (symbolIn d t v) (v .symbols) (rising d t v (readable .sections-rise)) i j l q)))
       go false true m = (section-kinded i l m, tt)
       go false false m = tt
 
-  kinded : Rises d gap h → (q : ℕ) → q < length (mapNumbers d gap h) → Kinded (getD (mapNumbers d gap h) q 0)
+  kinded : Readable d t v → (q : ℕ) → q < length (mapNumbers d t v) → Kinded (getD (mapNumbers d t v) q 0)
   unfolding mapNumbers mapCandidates
-  kinded rise q l =
-      all-∈ Kinded (getD (mapNumbers d gap h) q 0) (mapCandidates d gap h) (all-rows Kinded (mapsFrom d gap h) (h .sections) (kinded-in rise))
-      (table-members (keyOf By.MapName d gap h) (getD (mapNumbers d gap h) q 0) (mapCandidates d gap h) (getD-∈ (mapNumbers d gap h) q l))
+  kinded readable q l =
+      all-∈ Kinded (getD (mapNumbers d t v) q 0) (mapCandidates d t v) (all-rows Kinded (mapsFrom d t v) (v .sections) (kinded-in readable))
+      (table-members (keyOf By.MapName d t v) (getD (mapNumbers d t v) q 0) (mapCandidates d t v) (getD-∈ (mapNumbers d t v) q l))
 
-  sorted-numbers : Sorted (keyOf By.MapName d gap h) (mapNumbers d gap h)
+  sorted-numbers : Sorted (keyOf By.MapName d t v) (mapNumbers d t v)
   unfolding mapNumbers
-  sorted-numbers = sorted-table (keyOf By.MapName d gap h) (mapCandidates d gap h)
+  sorted-numbers = sorted-table (keyOf By.MapName d t v) (mapCandidates d t v)
 
-  own-home : (n : ℕ) → n < h .sections → mapHome d gap h n ≡ n
+  own-home : (n : ℕ) → n < v .sections → mapHome d t v n ≡ n
   unfolding mapHome
-  own-home n l = rw (lt-ltb n (h .sections) l)
+  own-home n l = rw (lt-ltb n (v .sections) l)
 
-  pub numbers-alone : Rises d gap h → Alone (mapNumbers d gap h)
-  numbers-alone rise q r l k s e = go (ltb y (h .sections)) refl
+  pub numbers-alone : Readable d t v → Alone (mapNumbers d t v)
+  numbers-alone readable q r l k s e = go (ltb y (v .sections)) refl
     where
       x : ℕ
-      x = getD (mapNumbers d gap h) q 0
+      x = getD (mapNumbers d t v) q 0
 
       y : ℕ
-      y = getD (mapNumbers d gap h) r 0
+      y = getD (mapNumbers d t v) r 0
 
-      go : (b : Bool) → ltb y (h .sections) ≡ b → r ≡ q
-      go true t =
-          once (keyOf By.MapName d gap h) (mapNumbers d gap h) sorted-numbers q r l k (sym (own-home y (ltb-true y (h .sections) t)) ∙ e ∙ own-home x s)
-      go false t =
-          true-not-false (sym (kinded rise r k .other (ltb-false y (h .sections) t)) ∙ ap isMaps e ∙ kinded rise q l .own s)
+      go : (b : Bool) → ltb y (v .sections) ≡ b → r ≡ q
+      go true f =
+          once (keyOf By.MapName d t v) (mapNumbers d t v) sorted-numbers q r l k (sym (own-home y (ltb-true y (v .sections) f)) ∙ e ∙ own-home x s)
+      go false f =
+          true-not-false (sym (kinded readable r k .other (ltb-false y (v .sections) f)) ∙ ap isMaps e ∙ kinded readable q l .own s)

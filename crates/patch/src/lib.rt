@@ -12,7 +12,7 @@ ghost use Rattle.model.specs.Patching.{patched};
 ghost use Rattle.model.specs.PatchList.{patchesOf};
 ghost use Rattle.model.specs.Refusals.{patchRefusal};
 ghost use Rattle.view.specs.View.{objectIn};
-ghost use Rattle.owner.specs.Owner.{Rise};
+ghost use Rattle.records.specs.Readable.{Readable};
 ghost use Rattle.patch_checks.specs.Entries.{countOf};
 ghost use Rattle.patch.specs.Acts.{targetOf, Reached};
 ghost use Rattle.patch.specs.Ready.{objectMaps, Ready, ownAt, checksAt};
@@ -20,8 +20,8 @@ use bearers::Bearer;
 use bearers::bearer_of;
 use lists::copy8;
 use map_places::place_of;
-use model::Head;
 use model::SymbolRecord;
+use object_view::View;
 use patch_checks::entry_at;
 use records::symbol;
 
@@ -38,8 +38,8 @@ fn write(bytes: &mut [u8], at: usize, patches: &[u8], from: usize, len: usize)
 // The same over the bytes of a symbol, in the map of its section; the map's row says where that begins.
 fn patch_symbol(
     d: &[u8],
-    gap: usize,
-    h: Head,
+    t: &[u32],
+    v: View,
     by: &[u32],
     rows: &[u64],
     own: usize,
@@ -49,10 +49,10 @@ fn patch_symbol(
     len: usize,
     bytes: &mut [u8],
 )
-    requires { ⌜ (gap ≤ 4) × Rise (now d) gap h × (h .sections ≤ length (now by)) × (from + len ≤ length (now patches)) × Reached (now d) gap h (now by) (now rows) own y len (length (now bytes)) ⌝ }
-    ensures { λ r. ⌜ now (bytes .exit) ≡ sets (now (bytes .entry)) (targetOf (now (d .entry)) gap h (now (by .entry)) (now (rows .entry)) own y) (part (now (patches .entry)) from len) ⌝ }
+    requires { ⌜ Readable (now d) (now t) v × (v .sections ≤ length (now by)) × (from + len ≤ length (now patches)) × Reached (now d) (now t) v (now by) (now rows) own y len (length (now bytes)) ⌝ }
+    ensures { λ r. ⌜ now (bytes .exit) ≡ sets (now (bytes .entry)) (targetOf (now (d .entry)) (now (t .entry)) v (now (by .entry)) (now (rows .entry)) own y) (part (now (patches .entry)) from len) ⌝ }
 {
-    let place = place_of(d, gap, h, by, y);
+    let place = place_of(d, t, v, by, y);
     let row = 27 * (place - 1);
     let at = rows[row + 5] as usize - own + y.address as usize;
     write(bytes, at, patches, from, len);
@@ -61,8 +61,8 @@ fn patch_symbol(
 // Entry e, counted from 0, acts.
 fn patch_entry(
     d: &[u8],
-    gap: usize,
-    h: Head,
+    t: &[u32],
+    v: View,
     entries: &[u64],
     e: usize,
     patches: &[u8],
@@ -72,19 +72,19 @@ fn patch_entry(
     own: usize,
     bytes: &mut [u8],
 )
-    requires { ⌜ Ready (now d) gap h (now order) (now by) (now rows) own × (e < countOf (now entries)) × checksAt (now d) gap h (now entries) (now patches) e × (now bytes ≡ ownAt (now d) gap h (now entries) (now patches) e) ⌝ }
-    ensures { λ r. ⌜ now (bytes .exit) ≡ ownAt (now (d .entry)) gap h (now (entries .entry)) (now (patches .entry)) (e + 1) ⌝ }
+    requires { ⌜ Ready (now d) (now t) v (now order) (now by) (now rows) own × (e < countOf (now entries)) × checksAt (now d) (now t) v (now entries) (now patches) e × (now bytes ≡ ownAt (now d) (now t) v (now entries) (now patches) e) ⌝ }
+    ensures { λ r. ⌜ now (bytes .exit) ≡ ownAt (now (d .entry)) (now (t .entry)) v (now (entries .entry)) (now (patches .entry)) (e + 1) ⌝ }
 {
     let x = entry_at(entries, e);
     let at = x.name.at as usize;
     let end = at + x.name.length as usize;
     let from = x.bytes.at as usize;
     let len = x.bytes.length as usize;
-    match bearer_of(d, gap, h, order, &patches[at..end]) {
+    match bearer_of(d, t, v, order, &patches[at..end]) {
         Bearer::Nobody => {}
         Bearer::One(j) => {
-            let y = symbol(d, gap, h, j);
-            patch_symbol(d, gap, h, by, rows, own, y, patches, from, len, bytes);
+            let y = symbol(d, t, v, j);
+            patch_symbol(d, t, v, by, rows, own, y, patches, from, len, bytes);
         }
         Bearer::Several => {}
     }
@@ -93,8 +93,8 @@ fn patch_entry(
 // The own bytes of the object's maps, patched.
 pub fn patch_own(
     d: &[u8],
-    gap: usize,
-    h: Head,
+    t: &[u32],
+    v: View,
     entries: &[u64],
     patches: &[u8],
     order: &[u32],
@@ -103,13 +103,13 @@ pub fn patch_own(
     own: usize,
     bytes: &mut [u8],
 )
-    requires { ⌜ Ready (now d) gap h (now order) (now by) (now rows) own × (patchRefusal (objectIn (now d) gap h) (objectMaps (now d) gap h) 1 (patchesOf (now entries) (now patches)) ≡ none) × (now bytes ≡ each mapOwn (objectMaps (now d) gap h)) ⌝ }
-    ensures { λ r. ⌜ now (bytes .exit) ≡ each mapOwn (patched (objectIn (now (d .entry)) gap h) (patchesOf (now (entries .entry)) (now (patches .entry))) (catalogueOf (objectIn (now (d .entry)) gap h)) .maps) ⌝ }
+    requires { ⌜ Ready (now d) (now t) v (now order) (now by) (now rows) own × (patchRefusal (objectIn (now d) (now t) v) (objectMaps (now d) (now t) v) 1 (patchesOf (now entries) (now patches)) ≡ none) × (now bytes ≡ each mapOwn (objectMaps (now d) (now t) v)) ⌝ }
+    ensures { λ r. ⌜ now (bytes .exit) ≡ each mapOwn (patched (objectIn (now (d .entry)) (now (t .entry)) v) (patchesOf (now (entries .entry)) (now (patches .entry))) (catalogueOf (objectIn (now (d .entry)) (now (t .entry)) v)) .maps) ⌝ }
 {
     let count = (entries.len() + 4) / 5;
     let mut e: usize = 0;
     while e < count {
-        patch_entry(d, gap, h, entries, e, patches, order, by, rows, own, bytes);
+        patch_entry(d, t, v, entries, e, patches, order, by, rows, own, bytes);
         e += 1;
     }
 }
@@ -117,8 +117,8 @@ pub fn patch_own(
 // The same where they lie among all bytes, from `own` to `end`.
 pub fn patch_map_data(
     d: &[u8],
-    gap: usize,
-    h: Head,
+    t: &[u32],
+    v: View,
     entries: &[u64],
     patches: &[u8],
     order: &[u32],
@@ -128,13 +128,13 @@ pub fn patch_map_data(
     end: usize,
     bytes: &mut [u8],
 )
-    requires { ⌜ Ready (now d) gap h (now order) (now by) (now rows) own × (patchRefusal (objectIn (now d) gap h) (objectMaps (now d) gap h) 1 (patchesOf (now entries) (now patches)) ≡ none) × (own ≤ end) × (end ≤ length (now bytes)) × (part (now bytes) own (end - own) ≡ each mapOwn (objectMaps (now d) gap h)) ⌝ }
-    ensures { λ r. ⌜ now (bytes .exit) ≡ take own (now (bytes .entry)) ++ (each mapOwn (patched (objectIn (now (d .entry)) gap h) (patchesOf (now (entries .entry)) (now (patches .entry))) (catalogueOf (objectIn (now (d .entry)) gap h)) .maps) ++ drop end (now (bytes .entry))) ⌝ }
+    requires { ⌜ Ready (now d) (now t) v (now order) (now by) (now rows) own × (patchRefusal (objectIn (now d) (now t) v) (objectMaps (now d) (now t) v) 1 (patchesOf (now entries) (now patches)) ≡ none) × (own ≤ end) × (end ≤ length (now bytes)) × (part (now bytes) own (end - own) ≡ each mapOwn (objectMaps (now d) (now t) v)) ⌝ }
+    ensures { λ r. ⌜ now (bytes .exit) ≡ take own (now (bytes .entry)) ++ (each mapOwn (patched (objectIn (now (d .entry)) (now (t .entry)) v) (patchesOf (now (entries .entry)) (now (patches .entry))) (catalogueOf (objectIn (now (d .entry)) (now (t .entry)) v)) .maps) ++ drop end (now (bytes .entry))) ⌝ }
 {
     patch_own(
         d,
-        gap,
-        h,
+        t,
+        v,
         entries,
         patches,
         order,

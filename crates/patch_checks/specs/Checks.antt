@@ -13,7 +13,7 @@ use lib.Seq.{length-take-le, getD-take}
 use Rattle.lists.specs.Tab.{tab}
 use Rattle.lists.specs.Walk.{drop-tab-next, drop-tab-none}
 use Rattle.lists.specs.Tests.{not-some}
-use Rattle.model.specs.declared.Head.{Head}
+use Rattle.object_view.specs.declared.View.{View}
 use Rattle.model.specs.declared.Refusal.{Refusal}
 use Rattle.model.specs.declared.SymbolRecord.{SymbolRecord}
 use Rattle.model.specs.Bytes.{orElse}
@@ -28,7 +28,7 @@ use Rattle.view.specs.Checked.{checkedOf}
 use Rattle.view.specs.View.{symbolIn, symbolFrom, objectIn}
 use Rattle.catalogue.specs.Numbers.{mapAt}
 use Rattle.catalogue.specs.Fits.{MapFits}
-use Rattle.owner.specs.Owner.{Rise}
+use Rattle.records.specs.Readable.{Readable}
 use Rattle.bearers.specs.declared.Bearer.{Bearer}
 use Rattle.bearers.specs.Bearers.{bearerOf, bearersIn, bearers-by}
 use Rattle.map_places.specs.Places.{mapPlaces}
@@ -55,50 +55,49 @@ all-take P zero l h f = tt
 all-take P (suc n) [] h f = let no : ⊥ = omega arith in absurd no
 all-take P (suc n) (x ∷ l) h f = (f 0 (omega arith), all-take P n l (omega arith) (λ k m. f (suc k) (omega arith)))
 
-module _ (d : List ℕ) (gap : ℕ) (h : Head) where
+module _ (d t : List ℕ) (v : View) where
   -- the maps of the first n numbers
   abbrev pub mapsOf : List ℕ → ℕ → List Map
-  mapsOf maps n = map (mapAt d gap h) (take n maps)
+  mapsOf maps n = map (mapAt d t v) (take n maps)
 
   -- n map numbers, and where the maps of each section stand among them
   pub record Sited (maps : List ℕ) (n : ℕ) (by : List ℕ) : Type 0 where
-    pub small : gap ≤ 4
-    pub rise : Rise d gap h
+    pub readable : Readable d t v
     pub within : n ≤ length maps
-    pub fits : (k : ℕ) → k < n → MapFits d gap h (getD maps k 0)
-    pub places : take (h .sections) by ≡ mapPlaces d gap h (take n maps)
+    pub fits : (k : ℕ) → k < n → MapFits d t v (getD maps k 0)
+    pub places : take (v .sections) by ≡ mapPlaces d t v (take n maps)
 
-  pub all-fit : {maps : List ℕ} {n : ℕ} {by : List ℕ} → Sited maps n by → All (MapFits d gap h) (take n maps)
-  all-fit {maps} {n} s = all-take (MapFits d gap h) n maps (s .within) (s .fits)
+  pub all-fit : {maps : List ℕ} {n : ℕ} {by : List ℕ} → Sited maps n by → All (MapFits d t v) (take n maps)
+  all-fit {maps} {n} s = all-take (MapFits d t v) n maps (s .within) (s .fits)
 
   module _ (maps : List ℕ) (n : ℕ) (by : List ℕ) (s : Sited maps n by) where
-    pub place-room : h .sections ≤ length by
-    place-room = places-room d gap h (take n maps) by (s .places)
+    pub place-room : v .sections ≤ length by
+    place-room = places-room d t v (take n maps) by (s .places)
 
     -- ---- the symbol's place
 
     module _ (y : SymbolRecord) (e : ℕ) where
-      own-past : (m : Map) → passes (m .own) (symbolFrom d gap h y) ≡ past (length (m .own)) (y .address) (y .size)
+      own-past : (m : Map) → passes (m .own) (symbolFrom d t v y) ≡ past (length (m .own)) (y .address) (y .size)
       unfolding symbolFrom passes
       own-past m = refl
 
-      pub refused-22 : 0 ≡ placeOf d gap h by y → placeRefusal (mapsOf maps n) e (symbolFrom d gap h y) ≡ ofEntry 22 e true
+      pub refused-22 : 0 ≡ placeOf d t v by y → placeRefusal (mapsOf maps n) e (symbolFrom d t v y) ≡ ofEntry 22 e true
       unfolding placeRefusal
-      refused-22 z = rw (no-map d gap h (s .rise) (take n maps) (all-fit s) by (s .places) y (sym z))
+      refused-22 z = rw (no-map d t v (s .readable) (take n maps) (all-fit s) by (s .places) y (sym z))
 
-      module _ (p : ℕ) (is : p ≡ placeOf d gap h by y) (some-map : p ≡ 0 → ⊥) where
+      module _ (p : ℕ) (is : p ≡ placeOf d t v by y) (some-map : p ≡ 0 → ⊥) where
         abbrev pub mapped : Type 0
-        mapped = Mapped d gap h (s .rise) (take n maps) (all-fit s) by (s .places) y (p - 1)
+        mapped = Mapped d t v (s .readable) (take n maps) (all-fit s) by (s .places) y (p - 1)
 
         pub map-at : mapped
-        map-at = let q : p ≡ suc (p - 1) = omega arith in the-map d gap h (s .rise) (take n maps) (all-fit s) by (s .places) y (p - 1) (sym is ∙ q)
+        map-at = let q : p ≡ suc (p - 1) = omega arith in the-map d t v (s .readable) (take n maps) (all-fit s) by (s .places) y (p - 1) (sym is ∙ q)
 
         pub place-below : p - 1 < n
         place-below = omega (arith, map-at .within, length-take-le n maps (s .within))
 
-        pub by-own : placeRefusal (mapsOf maps n) e (symbolFrom d gap h y) ≡ ofEntry 23 e (past (length (mapAt d gap h (getD maps (p - 1) 0) .own)) (y .address) (y .size))
+        pub by-own : placeRefusal (mapsOf maps n) e (symbolFrom d t v y) ≡ ofEntry 23 e (past (length (mapAt d t v (getD maps (p - 1) 0) .own)) (y .address) (y .size))
         unfolding placeRefusal
-        by-own = rw (map-at .is, getD-take n maps (p - 1) 0 place-below) (ap (ofEntry 23 e) (own-past (mapAt d gap h (getD maps (p - 1) 0))))
+        by-own = rw (map-at .is, getD-take n maps (p - 1) 0 place-below) (ap (ofEntry 23 e) (own-past (mapAt d t v (getD maps (p - 1) 0))))
 
   -- ---- the entry
 
@@ -106,10 +105,10 @@ module _ (d : List ℕ) (gap : ℕ) (h : Head) where
     -- what refuses an entry with data of some length and a mark, by the symbols that bear its name
     abbrev pub faultOf : ℕ → ℕ → Bearer → Option Refusal
     faultOf length mark Bearer.Nobody = ofEntry 20 e (eqb mark 1)
-    faultOf length mark (Bearer.One j) = orElse (ofEntry 21 e (not (eqb length (symbolIn d gap h j .size)))) (placeRefusal ms e (symbolIn d gap h j))
+    faultOf length mark (Bearer.One j) = orElse (ofEntry 21 e (not (eqb length (symbolIn d t v j .size)))) (placeRefusal ms e (symbolIn d t v j))
     faultOf length mark Bearer.Several = ofEntry 19 e true
 
-    by-bearers : (p : Patch) (js : List ℕ) → bearerRefusal ms e p (map (symbolIn d gap h) js) ≡ faultOf (length (p .bytes)) (p .mark) (bearerOf js)
+    by-bearers : (p : Patch) (js : List ℕ) → bearerRefusal ms e p (map (symbolIn d t v) js) ≡ faultOf (length (p .bytes)) (p .mark) (bearerOf js)
     unfolding bearerRefusal
     by-bearers p [] = refl
     by-bearers p (j ∷ []) = refl
@@ -119,25 +118,25 @@ module _ (d : List ℕ) (gap : ℕ) (h : Head) where
     passed a b r p q = rw (p, q)
 
     module _ (p : Patch) where
-      pub not-inside : p .inside ≡ false → entryRefusal (objectIn d gap h) ms e p ≡ ofEntry 18 e true
+      pub not-inside : p .inside ≡ false → entryRefusal (objectIn d t v) ms e p ≡ ofEntry 18 e true
       unfolding entryRefusal
       not-inside q = rw q
 
-      pub other-mark : 1 < p .mark → entryRefusal (objectIn d gap h) ms e p ≡ ofEntry 18 e true
+      pub other-mark : 1 < p .mark → entryRefusal (objectIn d t v) ms e p ≡ ofEntry 18 e true
       unfolding entryRefusal
       other-mark q = rw (lt-ltb 1 (p .mark) q) (go (not (p .inside)))
         where
-          go : (b : Bool) → orElse (ofEntry 18 e (b || true)) (bearerRefusal ms e p (bearers (objectIn d gap h) (p .name))) ≡ ofEntry 18 e true
+          go : (b : Bool) → orElse (ofEntry 18 e (b || true)) (bearerRefusal ms e p (bearers (objectIn d t v) (p .name))) ≡ ofEntry 18 e true
           go true = refl
           go false = refl
 
-      pub by-bearer : p .inside ≡ true → p .mark ≤ 1 → (b : Bearer) → b ≡ bearerOf (bearersIn d gap h (p .name))
-          → entryRefusal (objectIn d gap h) ms e p ≡ faultOf (length (p .bytes)) (p .mark) b
+      pub by-bearer : p .inside ≡ true → p .mark ≤ 1 → (b : Bearer) → b ≡ bearerOf (bearersIn d t v (p .name))
+          → entryRefusal (objectIn d t v) ms e p ≡ faultOf (length (p .bytes)) (p .mark) b
       unfolding entryRefusal
       by-bearer q m b f =
-          passed (p .inside) (ltb 1 (p .mark)) (bearerRefusal ms e p (bearers (objectIn d gap h) (p .name))) q (le-ltb 1 (p .mark) m)
-          ∙ ap (bearerRefusal ms e p) (bearers-by d gap h (p .name))
-          ∙ by-bearers p (bearersIn d gap h (p .name))
+          passed (p .inside) (ltb 1 (p .mark)) (bearerRefusal ms e p (bearers (objectIn d t v) (p .name))) q (le-ltb 1 (p .mark) m)
+          ∙ ap (bearerRefusal ms e p) (bearers-by d t v (p .name))
+          ∙ by-bearers p (bearersIn d t v (p .name))
           ∙ ap (faultOf (length (p .bytes)) (p .mark)) (sym f)
 
 -- ---- the list

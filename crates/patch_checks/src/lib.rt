@@ -15,12 +15,12 @@ ghost use Rattle.patch_checks.specs.Checks.{past, mapsOf, Sited};
 use bearers::Bearer;
 use bearers::bearer_of;
 use map_places::place_of;
-use model::Head;
 use model::Range;
 use model::Refusal;
 use model::SectionIndex;
 use model::SymbolIndex;
 use model::SymbolRecord;
+use object_view::View;
 use own::own_length;
 use records::symbol;
 use view::Checked;
@@ -109,22 +109,22 @@ fn of_entry(number: u32, entry: u64) -> Checked
 // Numbers 22 and 23.
 fn place_refusal(
     d: &[u8],
-    gap: usize,
-    h: Head,
+    t: &[u32],
+    v: View,
     maps: &[u32],
     n: usize,
     by: &[u32],
     y: SymbolRecord,
     e: u64,
 ) -> Checked
-    requires { ⌜ Sited (now d) gap h (now maps) n (now by) ⌝ }
-    ensures { λ r. ⌜ r ≡ checkedOf (placeRefusal (mapsOf (now (d .entry)) gap h (now (maps .entry)) n) e (symbolFrom (now (d .entry)) gap h y)) ⌝ }
+    requires { ⌜ Sited (now d) (now t) v (now maps) n (now by) ⌝ }
+    ensures { λ r. ⌜ r ≡ checkedOf (placeRefusal (mapsOf (now (d .entry)) (now (t .entry)) v (now (maps .entry)) n) e (symbolFrom (now (d .entry)) (now (t .entry)) v y)) ⌝ }
 {
-    let place = place_of(d, gap, h, by, y);
+    let place = place_of(d, t, v, by, y);
     if place == 0 {
         return of_entry(22, e);
     }
-    let own = own_length(d, gap, h, maps[place - 1]);
+    let own = own_length(d, t, v, maps[place - 1]);
     if passes(own, y.address, y.size) {
         return of_entry(23, e);
     }
@@ -134,8 +134,8 @@ fn place_refusal(
 // Numbers 21 to 23, for data of so many bytes.
 fn symbol_refusal(
     d: &[u8],
-    gap: usize,
-    h: Head,
+    t: &[u32],
+    v: View,
     maps: &[u32],
     n: usize,
     by: &[u32],
@@ -143,21 +143,21 @@ fn symbol_refusal(
     length: u64,
     e: u64,
 ) -> Checked
-    requires { ⌜ Sited (now d) gap h (now maps) n (now by) ⌝ }
-    ensures { λ r. ⌜ r ≡ checkedOf (orElse (ofEntry 21 e (not (eqb length (symbolIn (now (d .entry)) gap h j .size)))) (placeRefusal (mapsOf (now (d .entry)) gap h (now (maps .entry)) n) e (symbolIn (now (d .entry)) gap h j))) ⌝ }
+    requires { ⌜ Sited (now d) (now t) v (now maps) n (now by) ⌝ }
+    ensures { λ r. ⌜ r ≡ checkedOf (orElse (ofEntry 21 e (not (eqb length (symbolIn (now (d .entry)) (now (t .entry)) v j .size)))) (placeRefusal (mapsOf (now (d .entry)) (now (t .entry)) v (now (maps .entry)) n) e (symbolIn (now (d .entry)) (now (t .entry)) v j))) ⌝ }
 {
-    let y = symbol(d, gap, h, j);
+    let y = symbol(d, t, v, j);
     if length != y.size {
         return of_entry(21, e);
     }
-    place_refusal(d, gap, h, maps, n, by, y, e)
+    place_refusal(d, t, v, maps, n, by, y, e)
 }
 
 // What refuses an entry, which is entry e counted from 1.
 fn entry_refusal(
     d: &[u8],
-    gap: usize,
-    h: Head,
+    t: &[u32],
+    v: View,
     x: Entry,
     patches: &[u8],
     order: &[u32],
@@ -166,8 +166,8 @@ fn entry_refusal(
     by: &[u32],
     e: u64,
 ) -> Checked
-    requires { ⌜ Sited (now d) gap h (now maps) n (now by) × (now order ≡ byName (now d) gap h) ⌝ }
-    ensures { λ r. ⌜ r ≡ checkedOf (entryRefusal (objectIn (now (d .entry)) gap h) (mapsOf (now (d .entry)) gap h (now (maps .entry)) n) e (patchBy (now (patches .entry)) x)) ⌝ }
+    requires { ⌜ Sited (now d) (now t) v (now maps) n (now by) × (now order ≡ byName (now d) (now t) v) ⌝ }
+    ensures { λ r. ⌜ r ≡ checkedOf (entryRefusal (objectIn (now (d .entry)) (now (t .entry)) v) (mapsOf (now (d .entry)) (now (t .entry)) v (now (maps .entry)) n) e (patchBy (now (patches .entry)) x)) ⌝ }
 {
     if !is_lent(x, patches) {
         return of_entry(18, e);
@@ -177,7 +177,7 @@ fn entry_refusal(
     }
     let at = x.name.at as usize;
     let end = at + x.name.length as usize;
-    match bearer_of(d, gap, h, order, &patches[at..end]) {
+    match bearer_of(d, t, v, order, &patches[at..end]) {
         Bearer::Nobody => {
             if x.mark == 1 {
                 of_entry(20, e)
@@ -185,7 +185,7 @@ fn entry_refusal(
                 Checked::Fine
             }
         }
-        Bearer::One(j) => symbol_refusal(d, gap, h, maps, n, by, j, x.bytes.length, e),
+        Bearer::One(j) => symbol_refusal(d, t, v, maps, n, by, j, x.bytes.length, e),
         Bearer::Several => of_entry(19, e),
     }
 }
@@ -193,8 +193,8 @@ fn entry_refusal(
 // What refuses the list: the first entry that is refused.
 pub fn patch_refusal(
     d: &[u8],
-    gap: usize,
-    h: Head,
+    t: &[u32],
+    v: View,
     entries: &[u64],
     patches: &[u8],
     order: &[u32],
@@ -202,26 +202,15 @@ pub fn patch_refusal(
     n: usize,
     by: &[u32],
 ) -> Checked
-    requires { ⌜ Sited (now d) gap h (now maps) n (now by) × (now order ≡ byName (now d) gap h) ⌝ }
-    ensures { λ r. ⌜ r ≡ checkedOf (patchRefusal (objectIn (now (d .entry)) gap h) (mapsOf (now (d .entry)) gap h (now (maps .entry)) n) 1 (patchesOf (now (entries .entry)) (now (patches .entry)))) ⌝ }
+    requires { ⌜ Sited (now d) (now t) v (now maps) n (now by) × (now order ≡ byName (now d) (now t) v) ⌝ }
+    ensures { λ r. ⌜ r ≡ checkedOf (patchRefusal (objectIn (now (d .entry)) (now (t .entry)) v) (mapsOf (now (d .entry)) (now (t .entry)) v (now (maps .entry)) n) 1 (patchesOf (now (entries .entry)) (now (patches .entry)))) ⌝ }
 {
     let count = (entries.len() + 4) / 5;
     let mut e: usize = 0;
     while e < count {
         let x = entry_at(entries, e);
         let entry = (e + 1) as u64;
-        if let Checked::Refused(r) = entry_refusal(
-            d,
-            gap,
-            h,
-            x,
-            patches,
-            order,
-            maps,
-            n,
-            by,
-            entry,
-        ) {
+        if let Checked::Refused(r) = entry_refusal(d, t, v, x, patches, order, maps, n, by, entry) {
             return Checked::Refused(r);
         }
         e += 1;

@@ -1,4 +1,4 @@
--- The names and the data of a deposit that is opened lie inside it.
+-- The names of a view that is readable lie inside the stream.
 use mathlib.Core.Path.{_≡_, refl}
 use mathlib.Core.Bool.{Bool, true, false, cond}
 use mathlib.Core.List.{List}
@@ -6,37 +6,29 @@ use Prim.Native.Nat.{ℕ, _+_, _-_, _<_, _≤_}
 use native.Mathlib.Omega.{arith}
 use borrow.Author.Tests.{ltb-true, ltb-false}
 use lib.Dec.{ltb}
-use lib.ListN.{length, getD}
-use Rattle.model.specs.declared.Head.{Head}
-use Rattle.stream.specs.Stream.{place}
-use Rattle.records.specs.Records.{dataAt, sectionAt, symbolAt}
-use Rattle.deposit.specs.Accepted.{Accepted, NameRules, name-placed, data-placed}
+use lib.ListN.{getD}
+use Rattle.object_view.specs.declared.View.{View}
+use Rattle.records.specs.View.{sectionAt, symbolAt}
+use Rattle.records.specs.Readable.{NameFits, Readable}
 use Rattle.pieces.specs.declared.Piece.{Piece}
 use Rattle.pieces.specs.Pieces.{extentOf, AllPlaced}
 
 -- a number that stands for a record
-abbrev pub Known : Piece → Head → ℕ → Type 0
-Known Piece.SectionName h j = j < h .sections
-Known Piece.SymbolName h j = j < h .symbols
-Known Piece.MapName h j = j < h .sections + h .symbols
+abbrev pub Known : Piece → View → ℕ → Type 0
+Known Piece.SectionName v j = j < v .sections
+Known Piece.SymbolName v j = j < v .symbols
+Known Piece.MapName v j = j < v .sections + v .symbols
 
--- each section's data lie inside the deposit
-abbrev pub DataPlaced : List ℕ → ℕ → Head → Type 0
-DataPlaced d gap h = (i : ℕ) → i < h .sections → place gap (dataAt h + sectionAt d gap i .bytes .at + sectionAt d gap i .bytes .length) ≤ length d
-
-module _ (d : List ℕ) (h : Head) (a : Accepted d h) where
-  rules : (which : Piece) (j : ℕ) → Known which h j → NameRules d h (extentOf which d 4 h j)
+module _ (d t : List ℕ) (v : View) (r : Readable d t v) where
+  pub name-fits : (which : Piece) (j : ℕ) → Known which v j → NameFits d v (extentOf which d t v j)
   unfolding extentOf
-  rules Piece.SectionName j l = a .section-rules j l .name
-  rules Piece.SymbolName j l = a .symbol-rules j l .name
-  rules Piece.MapName j l = go (ltb j (h .sections)) refl
+  name-fits Piece.SectionName j l = r .section-name j l
+  name-fits Piece.SymbolName j l = r .symbol-name j l
+  name-fits Piece.MapName j l = go (ltb j (v .sections)) refl
     where
-      go : (b : Bool) → ltb j (h .sections) ≡ b → NameRules d h (cond b (sectionAt d 4 j .name) (symbolAt d 4 h (j - h .sections) .name))
-      go true t = a .section-rules j (ltb-true _ _ t) .name
-      go false t = let g : h .sections ≤ j = ltb-false _ _ t in a .symbol-rules (j - h .sections) (omega arith) .name
+      go : (b : Bool) → ltb j (v .sections) ≡ b → NameFits d v (cond b (sectionAt d t v j .name) (symbolAt d t v (j - v .sections) .name))
+      go true e = r .section-name j (ltb-true _ _ e)
+      go false e = let g : v .sections ≤ j = ltb-false _ _ e in r .symbol-name (j - v .sections) (omega arith)
 
-  pub all-placed : (which : Piece) (order : List ℕ) (n : ℕ) → ((k : ℕ) → k < n → Known which h (getD order k 0)) → AllPlaced which d 4 h order n
-  all-placed which order n known k l = name-placed d h a (extentOf which d 4 h (getD order k 0)) (rules which (getD order k 0) (known k l))
-
-  pub all-data-placed : DataPlaced d 4 h
-  all-data-placed i l = data-placed d h a (sectionAt d 4 i .bytes) (a .section-rules i l .bytes)
+  pub all-placed : (which : Piece) (order : List ℕ) (n : ℕ) → ((k : ℕ) → k < n → Known which v (getD order k 0)) → AllPlaced which d t v order n
+  all-placed which order n known k l = name-fits which (getD order k 0) (known k l) .placed

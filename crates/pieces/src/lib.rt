@@ -1,19 +1,19 @@
-// The bytes of a lent catalogue: names of a deposit, laid one after the other in the order of a table of record numbers.
+// The bytes of a lent catalogue: names of records, laid one after the other in the order of a table of record numbers.
 ghost use mathlib.Core.Path.{_≡_};
 ghost use mathlib.Core.List.{_++_};
 ghost use Prim.Native.Nat.{_+_, _^_, _<_, _≤_, min};
 ghost use lib.ListN.{length, take, drop};
 ghost use Rattle.model.specs.Bytes.{each};
 ghost use Rattle.stream.specs.Stream.{bytesAt, place as placeOf};
-ghost use Rattle.pieces.specs.Pieces.{sectionField, symbolField, fieldOf, extentOf, pieceOf, AllPlaced};
+ghost use Rattle.pieces.specs.Pieces.{extentOf, pieceOf, AllPlaced};
 use lists::copy8;
 use model::Extent;
-use model::Head;
-use records::names_at;
-use records::symbols_at;
+use object_view::View;
+use records::name_at;
+use records::section_name;
+use records::symbol_name;
 use stream::Run;
 use stream::size;
-use stream::u32_at;
 
 // Which name a record number stands for: that of a section, of a symbol, or of a map, whose number is a section's or, from `sections` on, a symbol's.
 pub enum Piece {
@@ -48,57 +48,33 @@ pub fn copy_stream(d: &[u8], gap: usize, p: usize, n: usize, out: &mut [u8], at:
     }
 }
 
-// Where a record has the range of its name.
-fn section_field(i: u32) -> usize
-    ensures { λ r. ⌜ (r ≡ sectionField i) × (r < 2 ^ 40) ⌝ }
-{
-    40 + 48 * size(i)
-}
-
-fn symbol_field(h: Head, j: u32) -> usize
-    ensures { λ r. ⌜ (r ≡ symbolField h j) × (r < 2 ^ 41) ⌝ }
-{
-    symbols_at(h) + 40 * size(j) + 8
-}
-
-fn field(h: Head, which: Piece, j: u32) -> usize
-    ensures { λ r. ⌜ (r ≡ fieldOf which h j) × (r < 2 ^ 41) ⌝ }
+// The range of the name that number j stands for.
+pub fn extent(d: &[u8], t: &[u32], v: View, which: Piece, j: u32) -> Extent
+    ensures { λ r. ⌜ r ≡ extentOf which (now (d .entry)) (now (t .entry)) v j ⌝ }
 {
     match which {
-        Piece::SectionName => section_field(j),
-        Piece::SymbolName => symbol_field(h, j),
+        Piece::SectionName => section_name(d, t, v, j),
+        Piece::SymbolName => symbol_name(d, t, v, j),
         Piece::MapName => {
-            let sections = h.sections;
+            let sections = v.sections;
             if j < sections {
-                section_field(j)
+                section_name(d, t, v, j)
             } else {
-                symbol_field(h, j - sections)
+                symbol_name(d, t, v, j - sections)
             }
         }
     }
 }
 
-// The range of the name that number j stands for.
-pub fn extent(d: &[u8], gap: usize, h: Head, which: Piece, j: u32) -> Extent
-    requires { ⌜ gap ≤ 4 ⌝ }
-    ensures { λ r. ⌜ r ≡ extentOf which (now (d .entry)) gap h j ⌝ }
-{
-    let p = field(h, which, j);
-    Extent {
-        at: u32_at(d, gap, p),
-        length: u32_at(d, gap, p + 4),
-    }
-}
-
 // How many bytes the names of the first n numbers have.
-pub fn total(d: &[u8], gap: usize, h: Head, which: Piece, order: &[u32], n: usize) -> usize
-    requires { ⌜ (gap ≤ 4) × (n < 2 ^ 31) × (n ≤ length (now order)) ⌝ }
-    ensures { λ r. ⌜ r ≡ length (each (pieceOf which (now (d .entry)) gap h) (take n (now (order .entry)))) ⌝ }
+pub fn total(d: &[u8], t: &[u32], v: View, which: Piece, order: &[u32], n: usize) -> usize
+    requires { ⌜ (n < 2 ^ 31) × (n ≤ length (now order)) ⌝ }
+    ensures { λ r. ⌜ r ≡ length (each (pieceOf which (now (d .entry)) (now (t .entry)) v) (take n (now (order .entry)))) ⌝ }
 {
     let mut sum: usize = 0;
     let mut k: usize = 0;
     while k < n {
-        let e = extent(d, gap, h, which, order[k]);
+        let e = extent(d, t, v, which, order[k]);
         sum += size(e.length);
         k += 1;
     }
@@ -108,24 +84,24 @@ pub fn total(d: &[u8], gap: usize, h: Head, which: Piece, order: &[u32], n: usiz
 // Those names one after the other into out, from `at` on; where they end.
 pub fn put(
     d: &[u8],
-    gap: usize,
-    h: Head,
+    t: &[u32],
+    v: View,
     which: Piece,
     order: &[u32],
     n: usize,
     out: &mut [u8],
     at: usize,
 ) -> usize
-    requires { ⌜ (gap ≤ 4) × (n ≤ length (now order)) × AllPlaced which (now d) gap h (now order) n × (at + length (each (pieceOf which (now d) gap h) (take n (now order))) ≤ length (now out)) ⌝ }
-    ensures { λ r. ⌜ (r ≡ at + length (each (pieceOf which (now (d .entry)) gap h) (take n (now (order .entry))))) × (now (out .exit) ≡ take at (now (out .entry)) ++ (each (pieceOf which (now (d .entry)) gap h) (take n (now (order .entry))) ++ drop r (now (out .entry)))) ⌝ }
+    requires { ⌜ (n ≤ length (now order)) × AllPlaced which (now d) (now t) v (now order) n × (at + length (each (pieceOf which (now d) (now t) v) (take n (now order))) ≤ length (now out)) ⌝ }
+    ensures { λ r. ⌜ (r ≡ at + length (each (pieceOf which (now (d .entry)) (now (t .entry)) v) (take n (now (order .entry))))) × (now (out .exit) ≡ take at (now (out .entry)) ++ (each (pieceOf which (now (d .entry)) (now (t .entry)) v) (take n (now (order .entry))) ++ drop r (now (out .entry)))) ⌝ }
 {
-    let names = names_at(h);
+    let gap = records::gap(v);
     let mut o = at;
     let mut k: usize = 0;
     while k < n {
-        let e = extent(d, gap, h, which, order[k]);
+        let e = extent(d, t, v, which, order[k]);
         let len = size(e.length);
-        copy_stream(d, gap, names + size(e.at), len, out, o);
+        copy_stream(d, gap, name_at(v, e), len, out, o);
         o += len;
         k += 1;
     }

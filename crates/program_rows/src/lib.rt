@@ -5,12 +5,13 @@ ghost use Prim.Native.Nat.{_+_, _*_, _^_, _<_, _≤_};
 ghost use lib.ListN.{length, take, drop};
 ghost use lib.Seq.{sets};
 ghost use Rattle.catalogue.specs.Numbers.{programAt};
-ghost use Rattle.owner.specs.Owner.{Rise};
+ghost use Rattle.records.specs.Readable.{Readable};
 ghost use Rattle.program_rows.specs.Rows.{rowOf, programRows};
-use model::Head;
+use object_view::View;
 use owner::home;
 use program_section::variant_numbers;
-use records::names_at;
+use records::gap;
+use records::name_at;
 use records::section;
 use records::symbol;
 use stream::size;
@@ -27,19 +28,19 @@ struct Row {
 }
 
 // The row of the program of symbol j.
-fn program_row(d: &[u8], gap: usize, h: Head, j: u32) -> Row
-    requires { ⌜ (gap ≤ 4) × Rise (now d) gap h ⌝ }
-    ensures { λ r. ⌜ (r ≡ rowOf (programAt (now (d .entry)) gap h j)) × (r .length < 2 ^ 32) ⌝ }
+fn program_row(d: &[u8], t: &[u32], v: View, j: u32) -> Row
+    requires { ⌜ Readable (now d) (now t) v ⌝ }
+    ensures { λ r. ⌜ (r ≡ rowOf (programAt (now (d .entry)) (now (t .entry)) v j)) × (r .length < 2 ^ 32) ⌝ }
 {
-    let y = symbol(d, gap, h, j);
-    let s = section(d, gap, home(d, gap, h, y));
-    let name = names_at(h) + size(s.name.at);
-    let v = variant_numbers(d, gap, name, size(s.name.length));
+    let y = symbol(d, t, v, j);
+    let s = section(d, t, v, home(d, t, v, y));
+    let name = name_at(v, s.name);
+    let variant = variant_numbers(d, gap(v), name, size(s.name.length));
     Row {
         length: size(y.name.length),
-        number: v.number,
-        first: v.first,
-        second: v.second,
+        number: variant.number,
+        first: variant.first,
+        second: variant.second,
         section: wide64(s.index.0),
         address: y.address,
     }
@@ -62,20 +63,20 @@ pub fn put7(t: &mut [u64], i: usize, a: u64, b: u64, c: u64, e: u64, f: u64, g: 
 // The rows of the programs of the first n symbols of `order`, whose names lie one after the other from `at` on.
 pub fn put_program_rows(
     d: &[u8],
-    gap: usize,
-    h: Head,
+    t: &[u32],
+    v: View,
     order: &[u32],
     n: usize,
     at: usize,
     out: &mut [u64],
 )
-    requires { ⌜ (gap ≤ 4) × Rise (now d) gap h × (n ≤ length (now order)) × (n < 2 ^ 29) × (at < 2 ^ 62) × (n * 7 ≤ length (now out)) ⌝ }
-    ensures { λ r. ⌜ now (out .exit) ≡ programRows (now (d .entry)) gap h at (take n (now (order .entry))) ++ drop (n * 7) (now (out .entry)) ⌝ }
+    requires { ⌜ Readable (now d) (now t) v × (n ≤ length (now order)) × (n < 2 ^ 29) × (at < 2 ^ 62) × (n * 7 ≤ length (now out)) ⌝ }
+    ensures { λ r. ⌜ now (out .exit) ≡ programRows (now (d .entry)) (now (t .entry)) v at (take n (now (order .entry))) ++ drop (n * 7) (now (out .entry)) ⌝ }
 {
     let mut place = at;
     let mut k: usize = 0;
     while k < n {
-        let r = program_row(d, gap, h, order[k]);
+        let r = program_row(d, t, v, order[k]);
         put7(
             out,
             k * 7,

@@ -7,7 +7,7 @@ use Prim.Native.Nat.{ℕ, _+_, _<_, _≤_}
 use native.Mathlib.Omega.{arith}
 use borrow.Author.Tests.{lt-ltb, le-ltb}
 use lib.Dec.{ltb}
-use Rattle.model.specs.declared.Head.{Head}
+use Rattle.object_view.specs.declared.View.{View}
 use Rattle.model.specs.declared.Refusal.{Refusal}
 use Rattle.model.specs.declared.SectionRecord.{SectionRecord}
 use Rattle.model.specs.declared.SymbolRecord.{SymbolRecord}
@@ -15,7 +15,7 @@ use Rattle.model.specs.Bytes.{orElse}
 use Rattle.model.specs.Instruction.{invalidProgramCode}
 use Rattle.model.specs.Refusals.{refuse, programSymbolRefusal}
 use Rattle.model.specs.Symbols.{top, isProgram}
-use Rattle.records.specs.Records.{symbolAt}
+use Rattle.records.specs.View.{symbolAt}
 use Rattle.view.specs.Group.{pastData, past-by-record, faultOf, fault-some}
 use Rattle.view.specs.View.{sectionFrom, symbolFrom, namedText, program-by-record}
 
@@ -24,11 +24,11 @@ programFault s y =
     cond (pastData (s .bytes .length) y || ltb (y .address) (s .address)) 10
     (cond (invalidProgramCode (y .size)) 15 0)
 
-pub program-by-fault : (d : List ℕ) (gap : ℕ) (h : Head) (s : SectionRecord) (y : SymbolRecord)
-    → programSymbolRefusal (sectionFrom d gap h s) (symbolFrom d gap h y) ≡ faultOf (programFault s y) (s .index) (y .index)
+pub program-by-fault : (d t : List ℕ) (v : View) (s : SectionRecord) (y : SymbolRecord)
+    → programSymbolRefusal (sectionFrom d t v s) (symbolFrom d t v y) ≡ faultOf (programFault s y) (s .index) (y .index)
 unfolding programSymbolRefusal sectionFrom symbolFrom programFault
-program-by-fault d gap h s y =
-    rw (past-by-record d gap h s y)
+program-by-fault d t v s y =
+    rw (past-by-record d t v s y)
     (go (pastData (s .bytes .length) y || ltb (y .address) (s .address)) (invalidProgramCode (y .size)))
   where
     go : (a b : Bool) → orElse (refuse a 10 (s .index) (y .index) 0) (refuse b 15 (s .index) (y .index) 0) ≡ faultOf (cond a 10 (cond b 15 0)) (s .index) (y .index)
@@ -69,16 +69,16 @@ module _ (s : SectionRecord) (y : SymbolRecord) where
 
 -- ---- what a symbol of the section is refused for
 
-module _ (d : List ℕ) (gap : ℕ) (h : Head) (s : SectionRecord) where
+module _ (d t : List ℕ) (v : View) (s : SectionRecord) where
   abbrev pub refusalBy : SymbolRecord → Option Refusal
-  refusalBy y = cond (isProgram (symbolFrom d gap h y)) (programSymbolRefusal (sectionFrom d gap h s) (symbolFrom d gap h y)) none
+  refusalBy y = cond (isProgram (symbolFrom d t v y)) (programSymbolRefusal (sectionFrom d t v s) (symbolFrom d t v y)) none
 
   abbrev pub refusalAt : ℕ → Option Refusal
-  refusalAt j = refusalBy (symbolAt d gap h j)
+  refusalAt j = refusalBy (symbolAt d t v j)
 
   module _ (y : SymbolRecord) where
     by-records : refusalBy y ≡ cond (namedText y) (faultOf (programFault s y) (s .index) (y .index)) none
-    by-records = rw (program-by-record d gap h y, program-by-fault d gap h s y)
+    by-records = rw (program-by-record d t v y, program-by-fault d t v s y)
 
     pub refusal-other : namedText y ≡ false → refusalBy y ≡ none
     refusal-other e = by-records ∙ rw e

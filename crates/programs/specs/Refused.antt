@@ -5,7 +5,7 @@ use mathlib.Core.List.{List, [], map}
 use mathlib.Core.Option.{some}
 use Prim.Native.Nat.{ℕ, _<_}
 use lib.ListN.{length}
-use Rattle.model.specs.declared.Head.{Head}
+use Rattle.object_view.specs.declared.View.{View}
 use Rattle.model.specs.declared.ParsedProgramSection.{ParsedProgramSection}
 use Rattle.model.specs.declared.ProgramSection.{ProgramSection}
 use Rattle.model.specs.declared.SectionRecord.{SectionRecord}
@@ -15,7 +15,8 @@ use Rattle.model.specs.ProgramName.{fromStr}
 use Rattle.model.specs.Refusals.{noSymbol, isEmpty, programSymbolRefusal, programRefusal}
 use Rattle.model.specs.Symbols.{symbolsOf, programSymbols}
 use Rattle.view.specs.Group.{membersIn, programsAmong, some-symbol, symbols-in, programs-in}
-use Rattle.view.specs.View.{nameIn, sectionFrom, symbolIn, objectIn}
+use Rattle.records.specs.View.{nameIn}
+use Rattle.view.specs.View.{sectionFrom, symbolIn, objectIn}
 
 module _ (o : Object) (s : Section) where
   unknown : fromStr (s .name) ≡ ParsedProgramSection.InvalidProgramSection
@@ -23,7 +24,7 @@ module _ (o : Object) (s : Section) where
   unfolding programRefusal
   unknown e = rw e
 
-  module _ (v : ProgramSection) (known : fromStr (s .name) ≡ ParsedProgramSection.Section v) where
+  module _ (w : ProgramSection) (known : fromStr (s .name) ≡ ParsedProgramSection.Section w) where
     empty : symbolsOf o s ≡ [] → programRefusal o s ≡ some (record { number = 9; section = s .index; symbol = noSymbol; entry = 0 })
     unfolding programRefusal
     empty e = rw (known, e)
@@ -32,25 +33,25 @@ module _ (o : Object) (s : Section) where
     unfolding programRefusal
     others e = rw (known, e)
 
-module _ (d : List ℕ) (gap : ℕ) (h : Head) (s : SectionRecord) where
-  pub refused-unknown : fromStr (nameIn d gap h (s .name)) ≡ ParsedProgramSection.InvalidProgramSection
-      → programRefusal (objectIn d gap h) (sectionFrom d gap h s) ≡ some (record { number = 8; section = s .index; symbol = noSymbol; entry = 0 })
+module _ (d t : List ℕ) (v : View) (s : SectionRecord) where
+  pub refused-unknown : fromStr (nameIn d v (s .name)) ≡ ParsedProgramSection.InvalidProgramSection
+      → programRefusal (objectIn d t v) (sectionFrom d t v s) ≡ some (record { number = 8; section = s .index; symbol = noSymbol; entry = 0 })
   unfolding sectionFrom
-  refused-unknown e = unknown (objectIn d gap h) (sectionFrom d gap h s) e
+  refused-unknown e = unknown (objectIn d t v) (sectionFrom d t v s) e
 
-  module _ (v : ProgramSection) (known : fromStr (nameIn d gap h (s .name)) ≡ ParsedProgramSection.Section v) (js : List ℕ) (group : js ≡ membersIn d gap h s) where
-    symbols : symbolsOf (objectIn d gap h) (sectionFrom d gap h s) ≡ map (symbolIn d gap h) js
-    symbols = symbols-in d gap h s ∙ ap (map (symbolIn d gap h)) (sym group)
+  module _ (w : ProgramSection) (known : fromStr (nameIn d v (s .name)) ≡ ParsedProgramSection.Section w) (js : List ℕ) (group : js ≡ membersIn d t v s) where
+    symbols : symbolsOf (objectIn d t v) (sectionFrom d t v s) ≡ map (symbolIn d t v) js
+    symbols = symbols-in d t v s ∙ ap (map (symbolIn d t v)) (sym group)
 
     pub refused-empty : js ≡ []
-        → programRefusal (objectIn d gap h) (sectionFrom d gap h s) ≡ some (record { number = 9; section = s .index; symbol = noSymbol; entry = 0 })
+        → programRefusal (objectIn d t v) (sectionFrom d t v s) ≡ some (record { number = 9; section = s .index; symbol = noSymbol; entry = 0 })
     unfolding sectionFrom
-    refused-empty e = empty (objectIn d gap h) (sectionFrom d gap h s) v known (symbols ∙ ap (map (symbolIn d gap h)) e)
+    refused-empty e = empty (objectIn d t v) (sectionFrom d t v s) w known (symbols ∙ ap (map (symbolIn d t v)) e)
 
     pub refused-symbols : 0 < length js
-        → programRefusal (objectIn d gap h) (sectionFrom d gap h s)
-        ≡ firstIn (programSymbolRefusal (sectionFrom d gap h s)) (map (symbolIn d gap h) (programsAmong d gap h js))
+        → programRefusal (objectIn d t v) (sectionFrom d t v s)
+        ≡ firstIn (programSymbolRefusal (sectionFrom d t v s)) (map (symbolIn d t v) (programsAmong d t v js))
     unfolding sectionFrom
     refused-symbols l =
-        others (objectIn d gap h) (sectionFrom d gap h s) v known (ap isEmpty symbols ∙ some-symbol d gap h js l)
-        ∙ ap (firstIn (programSymbolRefusal (sectionFrom d gap h s))) (programs-in d gap h s ∙ ap (λ (ks : List ℕ). map (symbolIn d gap h) (programsAmong d gap h ks)) (sym group))
+        others (objectIn d t v) (sectionFrom d t v s) w known (ap isEmpty symbols ∙ some-symbol d t v js l)
+        ∙ ap (firstIn (programSymbolRefusal (sectionFrom d t v s))) (programs-in d t v s ∙ ap (λ (ks : List ℕ). map (symbolIn d t v) (programsAmong d t v ks)) (sym group))

@@ -10,10 +10,10 @@ ghost use Rattle.view.specs.Checked.{checkedOf};
 ghost use Rattle.view.specs.Group.{membersIn, programsAmong};
 ghost use Rattle.view.specs.View.{sectionFrom, symbolIn, objectIn};
 ghost use Rattle.programs.specs.Fault.{programFault};
-use model::Head;
 use model::ParsedProgramSection;
 use model::SectionRecord;
 use model::SymbolRecord;
+use object_view::View;
 use stream::size;
 use stream::wide64;
 use view::Checked;
@@ -42,19 +42,19 @@ fn parse_program(s: SectionRecord, y: SymbolRecord) -> u32
 // The first refusal of a program among the symbols of a group.
 pub fn program_symbols(
     d: &[u8],
-    gap: usize,
-    h: Head,
+    t: &[u32],
+    v: View,
     s: SectionRecord,
     order: &[u32],
     lo: usize,
     hi: usize,
 ) -> Checked
-    requires { ⌜ (gap ≤ 4) × (hi ≤ length (now order)) ⌝ }
-    ensures { λ r. ⌜ r ≡ checkedOf (firstIn (programSymbolRefusal (sectionFrom (now (d .entry)) gap h s)) (map (symbolIn (now (d .entry)) gap h) (programsAmong (now (d .entry)) gap h (slice lo hi (now (order .entry)))))) ⌝ }
+    requires { ⌜ (hi ≤ length (now order)) ⌝ }
+    ensures { λ r. ⌜ r ≡ checkedOf (firstIn (programSymbolRefusal (sectionFrom (now (d .entry)) (now (t .entry)) v s)) (map (symbolIn (now (d .entry)) (now (t .entry)) v) (programsAmong (now (d .entry)) (now (t .entry)) v (slice lo hi (now (order .entry)))))) ⌝ }
 {
     let mut i = lo;
     while i < hi {
-        let y = records::symbol(d, gap, h, order[i]);
+        let y = records::symbol(d, t, v, order[i]);
         if view::is_program(y) {
             let fault = parse_program(s, y);
             if fault != 0 {
@@ -69,26 +69,26 @@ pub fn program_symbols(
 // What refuses a program section; the group is that of its symbols.
 pub fn program_refusal(
     d: &[u8],
-    gap: usize,
-    h: Head,
+    t: &[u32],
+    v: View,
     s: SectionRecord,
     order: &[u32],
     lo: usize,
     hi: usize,
 ) -> Checked
-    requires { ⌜ (gap ≤ 4) × (hi ≤ length (now order)) × (slice lo hi (now order) ≡ membersIn (now d) gap h s) ⌝ }
-    ensures { λ r. ⌜ r ≡ checkedOf (programRefusal (objectIn (now (d .entry)) gap h) (sectionFrom (now (d .entry)) gap h s)) ⌝ }
+    requires { ⌜ (hi ≤ length (now order)) × (slice lo hi (now order) ≡ membersIn (now d) (now t) v s) ⌝ }
+    ensures { λ r. ⌜ r ≡ checkedOf (programRefusal (objectIn (now (d .entry)) (now (t .entry)) v) (sectionFrom (now (d .entry)) (now (t .entry)) v s)) ⌝ }
 {
-    let at = records::names_at(h) + size(s.name.at);
+    let at = records::name_at(v, s.name);
     let n = size(s.name.length);
-    let parsed = program_section::from_str(d, gap, at, n);
+    let parsed = program_section::from_str(d, records::gap(v), at, n);
     match parsed {
         ParsedProgramSection::InvalidProgramSection => view::of_section(8, s),
         ParsedProgramSection::Section(_) => {
             if hi <= lo {
                 view::of_section(9, s)
             } else {
-                program_symbols(d, gap, h, s, order, lo, hi)
+                program_symbols(d, t, v, s, order, lo, hi)
             }
         }
     }
@@ -97,22 +97,22 @@ pub fn program_refusal(
 // Appends the numbers of a group's programs to the first w of out.
 pub fn program_numbers(
     d: &[u8],
-    gap: usize,
-    h: Head,
+    t: &[u32],
+    v: View,
     order: &[u32],
     lo: usize,
     hi: usize,
     out: &mut [u32],
     w: usize,
 ) -> usize
-    requires { ⌜ (gap ≤ 4) × (lo ≤ hi) × (hi ≤ length (now order)) × (w + (hi - lo) ≤ length (now out)) ⌝ }
-    ensures { λ r. ⌜ (r ≡ w + length (programsAmong (now (d .entry)) gap h (slice lo hi (now (order .entry))))) × (now (out .exit) ≡ take w (now (out .entry)) ++ (programsAmong (now (d .entry)) gap h (slice lo hi (now (order .entry))) ++ drop r (now (out .entry)))) ⌝ }
+    requires { ⌜ (lo ≤ hi) × (hi ≤ length (now order)) × (w + (hi - lo) ≤ length (now out)) ⌝ }
+    ensures { λ r. ⌜ (r ≡ w + length (programsAmong (now (d .entry)) (now (t .entry)) v (slice lo hi (now (order .entry))))) × (now (out .exit) ≡ take w (now (out .entry)) ++ (programsAmong (now (d .entry)) (now (t .entry)) v (slice lo hi (now (order .entry))) ++ drop r (now (out .entry)))) ⌝ }
 {
     let mut n = w;
     let mut i = lo;
     while i < hi {
         let j = order[i];
-        if view::is_program(records::symbol(d, gap, h, j)) {
+        if view::is_program(records::symbol(d, t, v, j)) {
             out[n] = j;
             n += 1;
         }

@@ -1,14 +1,16 @@
 -- The fields of head and records, each a number at its own place.
 use mathlib.Core.Path.{_≡_, sym, ap, ap₂, _∙_}
 use mathlib.Core.List.{List}
-use Prim.Native.Nat.{ℕ, suc, _+_, _/_, _%_, _<_, _≤_}
+use Prim.Native.Nat.{ℕ, suc, _+_, _*_, _/_, _%_, _<_, _≤_}
 use native.Mathlib.Omega.{arith}
 use lib.ListN.{getD}
 use Rattle.model.specs.Bytes.{part, little}
-use Rattle.model.specs.Deposit.{headOf, extent, sectionRecord, symbolRecord}
+use Rattle.model.specs.Deposit.{headOf, extent, sectionRecord, symbolRecord, relocationRecord}
 use Rattle.stream.specs.Stream.{byteAt, bytesAt}
 use Rattle.stream.specs.Laws.{getD-bytes, part-bytes}
-use Rattle.stream.specs.Fields.{little-first}
+use Rattle.stream.specs.Fields.{little-first, little-four, little-split}
+use Rattle.model.specs.declared.SectionIndex.{SectionIndex}
+use Rattle.model.specs.declared.SymbolIndex.{SymbolIndex}
 use Rattle.records.specs.Records.{extentAt}
 
 module _ (d : List ℕ) (gap p : ℕ) where
@@ -107,3 +109,50 @@ head-fields d gap = λ i. record {
   bytes = num d gap 0 32 20 4 (omega arith) i;
   reserved = num d gap 0 32 24 8 (omega arith) i;
 }
+
+-- ---- single fields, each read at its own place
+
+abbrev pub sectionIndex : ℕ → SectionIndex
+sectionIndex n = record { 0 = n }
+
+abbrev pub symbolIndex : ℕ → SymbolIndex
+symbolIndex n = record { 0 = n }
+
+module _ (d : List ℕ) (gap p : ℕ) where
+  pub section-index : sectionRecord (bytesAt d gap p 48) .index ≡ sectionIndex (little (bytesAt d gap p 4))
+  unfolding sectionRecord
+  section-index = ap sectionIndex (first d gap p 48 4 (omega arith))
+
+  pub section-name : sectionRecord (bytesAt d gap p 48) .name ≡ extentAt d gap (p + 8)
+  unfolding sectionRecord
+  section-name = range d gap p 48 8 (omega arith)
+
+  pub symbol-section : symbolRecord (bytesAt d gap p 40) .section ≡ sectionIndex (little (bytesAt d gap (p + 4) 4))
+  unfolding symbolRecord
+  symbol-section = ap sectionIndex (num d gap p 40 4 4 (omega arith))
+
+  pub symbol-name : symbolRecord (bytesAt d gap p 40) .name ≡ extentAt d gap (p + 8)
+  unfolding symbolRecord
+  symbol-name = range d gap p 40 8 (omega arith)
+
+  pub symbol-address : symbolRecord (bytesAt d gap p 40) .address ≡ little (bytesAt d gap (p + 16) 8)
+  unfolding symbolRecord
+  symbol-address = num d gap p 40 16 8 (omega arith)
+
+  pub relocation-offset : relocationRecord (bytesAt d gap p 16) .offset ≡ little (bytesAt d gap p 8)
+  unfolding relocationRecord
+  relocation-offset = first d gap p 16 8 (omega arith)
+
+  pub relocation-symbol : relocationRecord (bytesAt d gap p 16) .symbol ≡ symbolIndex (little (bytesAt d gap (p + 8) 4))
+  unfolding relocationRecord
+  relocation-symbol = ap symbolIndex (num d gap p 16 8 4 (omega arith))
+
+  -- two numbers of four bytes, read as one of eight
+  pub extent-both : (both : ℕ) → ((k : ℕ) → byteAt d gap k < 256) → both ≡ little (bytesAt d gap p 8)
+      → extent (both % 4294967296) (both / 4294967296) ≡ extentAt d gap p
+  extent-both both small e =
+      let s : both ≡ little (bytesAt d gap p 4) + 4294967296 * little (bytesAt d gap (p + 4) 4) = e ∙ little-split d gap p 4 4 in
+      let l : little (bytesAt d gap p 4) < 4294967296 = omega (arith, little-four d gap p, small p, small (p + 1), small (p + 2), small (p + 3)) in
+      let low : both % 4294967296 ≡ little (bytesAt d gap p 4) = omega arith in
+      let high : both / 4294967296 ≡ little (bytesAt d gap (p + 4) 4) = omega arith in
+      ap₂ extent low high

@@ -1,3 +1,5 @@
 -- What the contracts of `records` cite.
 pub mod Records
 pub mod Fields
+pub mod View
+pub mod Readable

@@ -4,8 +4,8 @@ ghost use mathlib.Core.List.{[], _∷_, _++_};
 ghost use Prim.Native.Nat.{_+_, _*_, _^_, _<_, _≤_};
 ghost use lib.ListN.{length, take, drop};
 ghost use lib.Seq.{sets};
-ghost use Rattle.model.specs.declared.Head.{Head};
 ghost use Rattle.section_rows.specs.Rows.{sectionRows};
+use object_view::View;
 use records::section;
 use stream::wide64;
 
@@ -26,15 +26,23 @@ fn wide(x: usize) -> u64
     x as u64
 }
 
-// The rows of the first n sections of `order`, whose names lie one after the other from `at` on; of the names only their lengths count, so that any head does.
-pub fn put_section_rows(d: &[u8], gap: usize, order: &[u32], n: usize, at: usize, out: &mut [u64])
-    requires { ⌜ (gap ≤ 4) × (n ≤ length (now order)) × (n < 2 ^ 29) × (at < 2 ^ 62) × (n * 4 ≤ length (now out)) ⌝ }
-    ensures { λ r. ⌜ ((h : Head) → now (out .exit) ≡ sectionRows (now (d .entry)) gap h at (take n (now (order .entry))) ++ drop (n * 4) (now (out .entry))) ⌝ }
+// The rows of the first n sections of `order`, whose names lie one after the other from `at` on.
+pub fn put_section_rows(
+    d: &[u8],
+    t: &[u32],
+    v: View,
+    order: &[u32],
+    n: usize,
+    at: usize,
+    out: &mut [u64],
+)
+    requires { ⌜ (n ≤ length (now order)) × (n < 2 ^ 29) × (at < 2 ^ 62) × (n * 4 ≤ length (now out)) ⌝ }
+    ensures { λ r. ⌜ now (out .exit) ≡ sectionRows (now (d .entry)) (now (t .entry)) v at (take n (now (order .entry))) ++ drop (n * 4) (now (out .entry)) ⌝ }
 {
     let mut place = wide(at);
     let mut k: usize = 0;
     while k < n {
-        let s = section(d, gap, order[k]);
+        let s = section(d, t, v, order[k]);
         let len = wide64(s.name.length);
         put4(out, k * 4, place, len, wide64(s.index.0), s.size);
         place += len;

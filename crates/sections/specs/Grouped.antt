@@ -11,16 +11,16 @@ use lib.ListN.{length, take, drop}
 use lib.Seq.{slice, length-slice, length-take-le, take-add, take-at, drop-at}
 use Rattle.lists.specs.Slice.{slice-none}
 use Rattle.lists.specs.Tab.{tab, length-tab}
-use Rattle.model.specs.declared.Head.{Head}
+use Rattle.object_view.specs.declared.View.{View}
 use Rattle.model.specs.declared.SectionIndex.{SectionIndex}
 use Rattle.model.specs.declared.SectionRecord.{SectionRecord}
 use Rattle.model.specs.Bytes.{keep}
-use Rattle.model.specs.Deposit.{unlessNone, byteOrder}
+use Rattle.model.specs.Deposit.{unlessNone}
 use Rattle.model.specs.Object.{Section}
 use Rattle.model.specs.Symbols.{liesIn}
 use Rattle.orders.specs.Sort.{byKey, key-order, sorted, length-sorted}
-use Rattle.records.specs.Records.{sectionAt, symbolAt}
-use Rattle.catalogue.specs.Numbers.{Rises}
+use Rattle.records.specs.View.{sectionAt, symbolAt}
+use Rattle.records.specs.Readable.{SectionsRise}
 use Rattle.plan.specs.ByNumber.{rawSection, isDefinedText, members, textMembers, textOrder}
 use Rattle.plan.specs.Numbers.{upTo, keep-ext}
 use Rattle.plan.specs.SectionsPrograms.{All}
@@ -46,45 +46,41 @@ unfolding keep
 none-kept [] = refl
 none-kept (j ∷ l) = none-kept l
 
-module _ (d : List ℕ) (gap : ℕ) (h : Head) where
+module _ (d t : List ℕ) (v : View) where
   abbrev key : ℕ → ℕ
-  key j = symbolAt d gap h j .section .0
+  key j = symbolAt d t v j .section .0
 
   -- the first n of the symbols lie in sections below k
   abbrev pub Passed : List ℕ → ℕ → ℕ → Type 0
-  Passed order n k = All (λ j. symbolAt d gap h j .section .0 < k) (take n order)
+  Passed order n k = All (λ j. symbolAt d t v j .section .0 < k) (take n order)
 
   -- where a section's symbols stand, from a place on
   pub record GroupOf (s : SectionRecord) (order : List ℕ) (from lo hi : ℕ) : Type 0 where
     pub after : from ≤ lo
     pub upward : lo ≤ hi
     pub within : hi ≤ length order
-    pub group : slice lo hi order ≡ membersIn d gap h s
+    pub group : slice lo hi order ≡ membersIn d t v s
     pub passed : (k : ℕ) → s .index .0 < k → Passed order hi k
 
   -- i sections are passed, and their symbols end at `from`
   pub record Reached (order : List ℕ) (i from : ℕ) : Type 0 where
     pub within : from ≤ length order
-    pub passed : i < h .sections → Passed order from (sectionAt d gap i .index .0)
+    pub passed : i < v .sections → Passed order from (sectionAt d t v i .index .0)
 
   pub reached-start : (order : List ℕ) → Reached order 0 0
   reached-start order = record { within = omega arith; passed = λ l. tt }
 
-  index-rises : Rises d gap h → (i j : ℕ) → i < j → j < h .sections → sectionAt d gap i .index .0 < sectionAt d gap j .index .0
-  unfolding sectionFrom
-  index-rises rise i j l m = rise i j l m
-
-  pub reached-next : (order : List ℕ) (i from lo hi : ℕ) → Rises d gap h → GroupOf (sectionAt d gap i) order from lo hi → Reached order (i + 1) hi
+  pub reached-next : (order : List ℕ) (i from lo hi : ℕ) → SectionsRise d t v → GroupOf (sectionAt d t v i) order from lo hi → Reached order (i + 1) hi
   reached-next order i from lo hi rise g =
-      record { within = g .within; passed = λ l. g .passed (sectionAt d gap (i + 1) .index .0) (index-rises rise i (i + 1) (omega arith) l) }
+      record { within = g .within; passed = λ l. g .passed (sectionAt d t v (i + 1) .index .0) (rise i (i + 1) (omega arith) l) }
 
-  pub all-symbols : (order : List ℕ) → order ≡ sorted (bySection (symbolIn d gap h)) (upTo (h .symbols)) → length order ≡ h .symbols
+  pub all-symbols : (order : List ℕ) → order ≡ sorted (bySection (symbolIn d t v)) (upTo (v .symbols)) → length order ≡ v .symbols
   all-symbols order e = ap length e ∙ rw (length-sorted, length-tab)
 
   -- no symbol lies in a section of the index that stands for none
-  no-members : (s : SectionRecord) → s .index .0 ≡ 4294967295 → membersIn d gap h s ≡ []
+  no-members : (s : SectionRecord) → s .index .0 ≡ 4294967295 → membersIn d t v s ≡ []
   unfolding members sectionFrom symbolFrom
-  no-members s e = keep-ext _ (λ j. false) (upTo (h .symbols)) (λ j. out (symbolAt d gap h j .section)) ∙ none-kept (upTo (h .symbols))
+  no-members s e = keep-ext _ (λ j. false) (upTo (v .symbols)) (λ j. out (symbolAt d t v j .section)) ∙ none-kept (upTo (v .symbols))
     where
       go : (i : SectionIndex) (b : Bool) → eqb (i .0) 4294967295 ≡ b → liesIn (s .index) (cond b none (some i)) ≡ false
       go i true q = refl
@@ -93,8 +89,8 @@ module _ (d : List ℕ) (gap : ℕ) (h : Head) where
       out : (i : SectionIndex) → liesIn (s .index) (unlessNone (i .0) i) ≡ false
       out i = go i (eqb (i .0) 4294967295) refl
 
-  module _ (s : SectionRecord) (order : List ℕ) (from lo : ℕ) (e : order ≡ sorted (bySection (symbolIn d gap h)) (upTo (h .symbols)))
-      (p : Passed order from (s .index .0)) (a : Start d gap h order from (s .index .0) lo) where
+  module _ (s : SectionRecord) (order : List ℕ) (from lo : ℕ) (e : order ≡ sorted (bySection (symbolIn d t v)) (upTo (v .symbols)))
+      (p : Passed order from (s .index .0)) (a : Start d t v order from (s .index .0) lo) where
     pub group-none : s .index .0 ≡ 4294967295 → GroupOf s order from lo lo
     group-none q =
         record {
@@ -105,16 +101,16 @@ module _ (d : List ℕ) (gap : ℕ) (h : Head) where
           passed = λ k l. none-passed key order (s .index .0) k from lo (omega arith) (a .after) p (a .below);
         }
 
-    pub group-some : (hi : ℕ) → (s .index .0 ≡ 4294967295 → ⊥) → End d gap h order lo (s .index .0) hi → GroupOf s order from lo hi
+    pub group-some : (hi : ℕ) → (s .index .0 ≡ 4294967295 → ⊥) → End d t v order lo (s .index .0) hi → GroupOf s order from lo hi
     unfolding sectionFrom
     group-some hi q b =
-        let c = section-climbs d gap h order e in
+        let c = section-climbs d t v order e in
         let g : keep (λ j. eqb (s .index .0) (key j)) order ≡ slice lo hi order =
         the-group key order (s .index .0) from lo hi c p (a .after) (b .after) (a .below) (a .stops) (b .equal) (b .stops) in
-        let r : keep (λ j. eqb (s .index .0) (key j)) order ≡ keep (λ j. eqb (s .index .0) (rawSection (symbolIn d gap h j))) order =
-        keep-ext _ _ order (λ j. ap (eqb (s .index .0)) (sym (raw-is d gap h (symbolAt d gap h j)))) in
-        let m : keep (λ j. eqb (s .index .0) (rawSection (symbolIn d gap h j))) order ≡ membersIn d gap h s =
-        rw e (members-group (byteOrder (h .order)) (tab (sectionIn d gap h) (h .sections)) (symbolIn d gap h) (h .symbols) (sectionFrom d gap h s) q) in
+        let r : keep (λ j. eqb (s .index .0) (key j)) order ≡ keep (λ j. eqb (s .index .0) (rawSection (symbolIn d t v j))) order =
+        keep-ext _ _ order (λ j. ap (eqb (s .index .0)) (sym (raw-is d t v (symbolAt d t v j)))) in
+        let m : keep (λ j. eqb (s .index .0) (rawSection (symbolIn d t v j))) order ≡ membersIn d t v s =
+        rw e (members-group (v .order) (tab (sectionIn d t v) (v .sections)) (symbolIn d t v) (v .symbols) (sectionFrom d t v s) q) in
         record {
           after = a .after;
           upward = b .after;
@@ -127,9 +123,9 @@ module _ (d : List ℕ) (gap : ℕ) (h : Head) where
 
   module _ (s : SectionRecord) where
     abbrev sec : Section
-    sec = sectionFrom d gap h s
+    sec = sectionFrom d t v s
 
-    text-none : membersIn d gap h s ≡ [] → [] ≡ textIn d gap h sec
+    text-none : membersIn d t v s ≡ [] → [] ≡ textIn d t v sec
     unfolding textOrder textMembers keep sorted
     text-none e = rw e
 
@@ -137,26 +133,26 @@ module _ (d : List ℕ) (gap : ℕ) (h : Head) where
     unfolding sectionFrom
     index-is = refl
 
-    text-some : (sec .index .0 ≡ 4294967295 → ⊥) → keep (λ j. isDefinedText (symbolIn d gap h j)) (sorted (byPlace (symbolIn d gap h)) (membersIn d gap h s)) ≡ textIn d gap h sec
+    text-some : (sec .index .0 ≡ 4294967295 → ⊥) → keep (λ j. isDefinedText (symbolIn d t v j)) (sorted (byPlace (symbolIn d t v)) (membersIn d t v s)) ≡ textIn d t v sec
     text-some q =
-        let E = byteOrder (h .order) in
-        let ss = tab (sectionIn d gap h) (h .sections) in
-        let at = symbolIn d gap h in
+        let E = v .order in
+        let ss = tab (sectionIn d t v) (v .sections) in
+        let at = symbolIn d t v in
         let o = key-order (λ j. rawSection (at j) ∷ at j .address ∷ []) in
-        ap (λ l. keep (λ j. isDefinedText (at j)) (sorted (byPlace at) l)) (sym (members-raw E ss at (h .symbols) sec q))
-        ∙ ap (keep (λ j. isDefinedText (at j))) (sym (keep-of-sorted (byPlace at) o (λ j. eqb (sec .index .0) (rawSection (at j))) (upTo (h .symbols))))
-        ∙ text-group E ss at (h .symbols) sec q
+        ap (λ l. keep (λ j. isDefinedText (at j)) (sorted (byPlace at) l)) (sym (members-raw E ss at (v .symbols) sec q))
+        ∙ ap (keep (λ j. isDefinedText (at j))) (sym (keep-of-sorted (byPlace at) o (λ j. eqb (sec .index .0) (rawSection (at j))) (upTo (v .symbols))))
+        ∙ text-group E ss at (v .symbols) sec q
 
-    text-any : (b : Bool) → eqb (s .index .0) 4294967295 ≡ b → keep (λ j. isDefinedText (symbolIn d gap h j)) (sorted (byPlace (symbolIn d gap h)) (membersIn d gap h s)) ≡ textIn d gap h sec
+    text-any : (b : Bool) → eqb (s .index .0) 4294967295 ≡ b → keep (λ j. isDefinedText (symbolIn d t v j)) (sorted (byPlace (symbolIn d t v)) (membersIn d t v s)) ≡ textIn d t v sec
     unfolding keep sorted
-    text-any true q = let e = no-members s (eqb-true (s .index .0) 4294967295 q) in ap (λ l. keep (λ j. isDefinedText (symbolIn d gap h j)) (sorted (byPlace (symbolIn d gap h)) l)) e ∙ text-none e
+    text-any true q = let e = no-members s (eqb-true (s .index .0) 4294967295 q) in ap (λ l. keep (λ j. isDefinedText (symbolIn d t v j)) (sorted (byPlace (symbolIn d t v)) l)) e ∙ text-none e
     text-any false q = text-some (λ r. eqb-false (s .index .0) 4294967295 q (sym index-is ∙ r))
 
     -- a copy of the group, sorted by address, at the front of a list
-    pub text-ready : (order y rest : List ℕ) (lo hi n : ℕ) → slice lo hi order ≡ membersIn d gap h s → hi ≤ length order → n ≡ hi - lo
-        → y ≡ sorted (byKey (keyOf By.SymbolAddress d gap h)) (slice lo hi order) → textGroup d gap h (y ++ rest) 0 n ≡ textIn d gap h sec
+    pub text-ready : (order y rest : List ℕ) (lo hi n : ℕ) → slice lo hi order ≡ membersIn d t v s → hi ≤ length order → n ≡ hi - lo
+        → y ≡ sorted (byKey (keyOf By.SymbolAddress d t v)) (slice lo hi order) → textGroup d t v (y ++ rest) 0 n ≡ textIn d t v sec
     unfolding textGroup
     text-ready order y rest lo hi n g w e q =
         let l : length y ≡ n = ap length q ∙ rw (length-sorted, length-slice lo hi order w) (sym e) in
-        ap (keep (λ j. isDefinedText (symbolIn d gap h j))) (take-at y rest n l ∙ q ∙ (λ k. sorted (byKey (place-keys d gap h k)) (g k)))
+        ap (keep (λ j. isDefinedText (symbolIn d t v j))) (take-at y rest n l ∙ q ∙ (λ k. sorted (byKey (place-keys d t v k)) (g k)))
         ∙ text-any (eqb (s .index .0) 4294967295) refl

@@ -9,20 +9,20 @@ ghost use Rattle.model.specs.SectionKind.{isKind, kindOf};
 ghost use Rattle.orders.specs.Sort.{byKey, sorted};
 ghost use Rattle.plan.specs.Numbers.{upTo};
 ghost use Rattle.plan.specs.SortedGroups.{bySection};
+ghost use Rattle.records.specs.Readable.{Readable};
 ghost use Rattle.keys.specs.declared.By.{By};
 ghost use Rattle.keys.specs.Keys.{keyOf};
 ghost use Rattle.view.specs.Group.{membersIn, programsAmong};
 ghost use Rattle.view.specs.View.{sectionFrom, symbolIn, objectIn};
-ghost use Rattle.catalogue.specs.Numbers.{Rises, functionCandidates};
-ghost use Rattle.first_checks.specs.LicenceVersion.{RelocsInside};
+ghost use Rattle.catalogue.specs.Numbers.{functionCandidates};
 ghost use Rattle.first_checks.specs.Targets.{NextOf};
 ghost use Rattle.sections.specs.Grouped.{Passed, GroupOf};
 ghost use Rattle.sections.specs.Answers.{answerOf, Answers, walkedIn, functionsBy};
 ghost use Rattle.sections.specs.Pass.{Listed, sectionsRefused};
 use keys::By;
 use model::EbpfSectionKind;
-use model::Head;
 use model::SectionRecord;
+use object_view::View;
 use text::ParsedText;
 use view::Checked;
 
@@ -36,23 +36,16 @@ pub struct Group {
 }
 
 // The group of a section; those of the sections before it end at `from`.
-pub fn group_of(
-    d: &[u8],
-    gap: usize,
-    h: Head,
-    s: SectionRecord,
-    order: &[u32],
-    from: usize,
-) -> Group
-    requires { ⌜ (gap ≤ 4) × (from ≤ length (now order)) × (now order ≡ sorted (bySection (symbolIn (now d) gap h)) (upTo (h .symbols))) × Passed (now d) gap h (now order) from (s .index .0) ⌝ }
-    ensures { λ r. ⌜ GroupOf (now (d .entry)) gap h s (now (order .entry)) from (r .lo) (r .hi) ⌝ }
+pub fn group_of(d: &[u8], t: &[u32], v: View, s: SectionRecord, order: &[u32], from: usize) -> Group
+    requires { ⌜ (from ≤ length (now order)) × (now order ≡ sorted (bySection (symbolIn (now d) (now t) v)) (upTo (v .symbols))) × Passed (now d) (now t) v (now order) from (s .index .0) ⌝ }
+    ensures { λ r. ⌜ GroupOf (now (d .entry)) (now (t .entry)) v s (now (order .entry)) from (r .lo) (r .hi) ⌝ }
 {
     let k = s.index.0;
-    let lo = groups::group_start(d, gap, h, order, from, k);
+    let lo = groups::group_start(d, t, v, order, from, k);
     if k == NO_SECTION {
         return Group { lo: lo, hi: lo };
     }
-    let hi = groups::group_end(d, gap, h, order, lo, k);
+    let hi = groups::group_end(d, t, v, order, lo, k);
     Group { lo: lo, hi: hi }
 }
 
@@ -68,8 +61,8 @@ fn answer(c: Checked, n: usize) -> ParsedText
 
 fn parse_programs(
     d: &[u8],
-    gap: usize,
-    h: Head,
+    t: &[u32],
+    v: View,
     s: SectionRecord,
     order: &[u32],
     lo: usize,
@@ -77,13 +70,13 @@ fn parse_programs(
     functions: &mut [u32],
     w: usize,
 ) -> ParsedText
-    requires { ⌜ (gap ≤ 4) × (lo ≤ hi) × (hi ≤ length (now order)) × (w + (hi - lo) ≤ length (now functions)) × (slice lo hi (now order) ≡ membersIn (now d) gap h s) ⌝ }
-    ensures { λ r. ⌜ Answers (programRefusal (objectIn (now (d .entry)) gap h) (sectionFrom (now (d .entry)) gap h s)) (programsAmong (now (d .entry)) gap h (membersIn (now (d .entry)) gap h s)) (now (functions .entry)) w r (now (functions .exit)) ⌝ }
+    requires { ⌜ (lo ≤ hi) × (hi ≤ length (now order)) × (w + (hi - lo) ≤ length (now functions)) × (slice lo hi (now order) ≡ membersIn (now d) (now t) v s) ⌝ }
+    ensures { λ r. ⌜ Answers (programRefusal (objectIn (now (d .entry)) (now (t .entry)) v) (sectionFrom (now (d .entry)) (now (t .entry)) v s)) (programsAmong (now (d .entry)) (now (t .entry)) v (membersIn (now (d .entry)) (now (t .entry)) v s)) (now (functions .entry)) w r (now (functions .exit)) ⌝ }
 {
-    match programs::program_refusal(d, gap, h, s, order, lo, hi) {
+    match programs::program_refusal(d, t, v, s, order, lo, hi) {
         Checked::Refused(r) => ParsedText::Refused(r),
         Checked::Fine => {
-            ParsedText::Functions(programs::program_numbers(d, gap, h, order, lo, hi, functions, w))
+            ParsedText::Functions(programs::program_numbers(d, t, v, order, lo, hi, functions, w))
         }
     }
 }
@@ -91,25 +84,25 @@ fn parse_programs(
 // A copy of a group, sorted by address.
 fn by_address(
     d: &[u8],
-    gap: usize,
-    h: Head,
+    t: &[u32],
+    v: View,
     order: &[u32],
     lo: usize,
     hi: usize,
     group: &mut [u32],
     tmp: &mut [u32],
 )
-    requires { ⌜ (gap ≤ 4) × (lo ≤ hi) × (hi ≤ length (now order)) × (length (now group) ≡ hi - lo) × (length (now tmp) ≡ hi - lo) ⌝ }
-    ensures { λ r. ⌜ now (group .exit) ≡ sorted (byKey (keyOf By.SymbolAddress (now (d .entry)) gap h)) (slice lo hi (now (order .entry))) ⌝ }
+    requires { ⌜ (lo ≤ hi) × (hi ≤ length (now order)) × (length (now group) ≡ hi - lo) × (length (now tmp) ≡ hi - lo) ⌝ }
+    ensures { λ r. ⌜ now (group .exit) ≡ sorted (byKey (keyOf By.SymbolAddress (now (d .entry)) (now (t .entry)) v)) (slice lo hi (now (order .entry))) ⌝ }
 {
     sort::copy(group, &order[lo..hi]);
-    sort::sort(d, gap, h, By::SymbolAddress, group, tmp);
+    sort::sort(d, t, v, By::SymbolAddress, group, tmp);
 }
 
 fn parse_text_section(
     d: &[u8],
-    gap: usize,
-    h: Head,
+    t: &[u32],
+    v: View,
     s: SectionRecord,
     order: &[u32],
     lo: usize,
@@ -119,19 +112,19 @@ fn parse_text_section(
     functions: &mut [u32],
     w: usize,
 ) -> ParsedText
-    requires { ⌜ (gap ≤ 4) × (lo ≤ hi) × (hi ≤ length (now order)) × (w + (hi - lo) ≤ length (now functions)) × (slice lo hi (now order) ≡ membersIn (now d) gap h s) × (hi - lo ≤ length (now group)) × (hi - lo ≤ length (now tmp)) ⌝ }
-    ensures { λ r. ⌜ Answers (textRefusal (objectIn (now (d .entry)) gap h) (sectionFrom (now (d .entry)) gap h s)) (walkedIn (now (d .entry)) gap h s) (now (functions .entry)) w r (now (functions .exit)) ⌝ }
+    requires { ⌜ (lo ≤ hi) × (hi ≤ length (now order)) × (w + (hi - lo) ≤ length (now functions)) × (slice lo hi (now order) ≡ membersIn (now d) (now t) v s) × (hi - lo ≤ length (now group)) × (hi - lo ≤ length (now tmp)) ⌝ }
+    ensures { λ r. ⌜ Answers (textRefusal (objectIn (now (d .entry)) (now (t .entry)) v) (sectionFrom (now (d .entry)) (now (t .entry)) v s)) (walkedIn (now (d .entry)) (now (t .entry)) v s) (now (functions .entry)) w r (now (functions .exit)) ⌝ }
 {
     let n = hi - lo;
-    by_address(d, gap, h, order, lo, hi, &mut group[0..n], &mut tmp[0..n]);
-    text::parse_text_section(d, gap, h, s, group, 0, n, functions, w)
+    by_address(d, t, v, order, lo, hi, &mut group[0..n], &mut tmp[0..n]);
+    text::parse_text_section(d, t, v, s, group, 0, n, functions, w)
 }
 
 // What a section of its kind is refused for, and its functions.
 fn parse_kind(
     d: &[u8],
-    gap: usize,
-    h: Head,
+    t: &[u32],
+    v: View,
     s: SectionRecord,
     kind: EbpfSectionKind,
     order: &[u32],
@@ -142,19 +135,19 @@ fn parse_kind(
     functions: &mut [u32],
     w: usize,
 ) -> ParsedText
-    requires { ⌜ (gap ≤ 4) × (lo ≤ hi) × (hi ≤ length (now order)) × (w + (hi - lo) ≤ length (now functions)) × (slice lo hi (now order) ≡ membersIn (now d) gap h s) × (hi - lo ≤ length (now group)) × (hi - lo ≤ length (now tmp)) × (kind ≡ kindOf (sectionFrom (now d) gap h s)) ⌝ }
-    ensures { λ r. ⌜ Answers (kindRefusal (objectIn (now (d .entry)) gap h) (sectionFrom (now (d .entry)) gap h s)) (functionsBy (now (d .entry)) gap h s) (now (functions .entry)) w r (now (functions .exit)) ⌝ }
+    requires { ⌜ (lo ≤ hi) × (hi ≤ length (now order)) × (w + (hi - lo) ≤ length (now functions)) × (slice lo hi (now order) ≡ membersIn (now d) (now t) v s) × (hi - lo ≤ length (now group)) × (hi - lo ≤ length (now tmp)) × (kind ≡ kindOf (sectionFrom (now d) (now t) v s)) ⌝ }
+    ensures { λ r. ⌜ Answers (kindRefusal (objectIn (now (d .entry)) (now (t .entry)) v) (sectionFrom (now (d .entry)) (now (t .entry)) v s)) (functionsBy (now (d .entry)) (now (t .entry)) v s) (now (functions .entry)) w r (now (functions .exit)) ⌝ }
 {
     match kind {
-        EbpfSectionKind::Program => { parse_programs(d, gap, h, s, order, lo, hi, functions, w) }
+        EbpfSectionKind::Program => { parse_programs(d, t, v, s, order, lo, hi, functions, w) }
         EbpfSectionKind::Maps => {
             answer(
-                map_sections::parse_maps_section(d, gap, h, s, order, lo, hi),
+                map_sections::parse_maps_section(d, t, v, s, order, lo, hi),
                 w,
             )
         }
         EbpfSectionKind::Text => {
-            parse_text_section(d, gap, h, s, order, lo, hi, group, tmp, functions, w)
+            parse_text_section(d, t, v, s, order, lo, hi, group, tmp, functions, w)
         }
         EbpfSectionKind::BtfMaps => answer(view::of_section(17, s), w),
         _ => ParsedText::Functions(w),
@@ -172,8 +165,8 @@ pub fn is_btf_ext(kind: EbpfSectionKind) -> bool
 
 fn parse_section(
     d: &[u8],
-    gap: usize,
-    h: Head,
+    t: &[u32],
+    v: View,
     s: SectionRecord,
     next: &[u32],
     order: &[u32],
@@ -184,45 +177,45 @@ fn parse_section(
     functions: &mut [u32],
     w: usize,
 ) -> ParsedText
-    requires { ⌜ (gap ≤ 4) × (lo ≤ hi) × (hi ≤ length (now order)) × (w + (hi - lo) ≤ length (now functions)) × (slice lo hi (now order) ≡ membersIn (now d) gap h s) × (hi - lo ≤ length (now group)) × (hi - lo ≤ length (now tmp)) × NextOf (now d) gap h (now next) × (s .relocations .at + s .relocations .length ≤ h .relocations) ⌝ }
-    ensures { λ r. ⌜ Answers (sectionRefusal (objectIn (now (d .entry)) gap h) (sectionFrom (now (d .entry)) gap h s)) (functionsBy (now (d .entry)) gap h s) (now (functions .entry)) w r (now (functions .exit)) ⌝ }
+    requires { ⌜ (lo ≤ hi) × (hi ≤ length (now order)) × (w + (hi - lo) ≤ length (now functions)) × (slice lo hi (now order) ≡ membersIn (now d) (now t) v s) × (hi - lo ≤ length (now group)) × (hi - lo ≤ length (now tmp)) × NextOf (now d) (now t) v (now next) × (s .relocations .at + s .relocations .length ≤ v .relocations) ⌝ }
+    ensures { λ r. ⌜ Answers (sectionRefusal (objectIn (now (d .entry)) (now (t .entry)) v) (sectionFrom (now (d .entry)) (now (t .entry)) v s)) (functionsBy (now (d .entry)) (now (t .entry)) v s) (now (functions .entry)) w r (now (functions .exit)) ⌝ }
 {
-    let kind = view::kind_of(d, gap, h, s);
+    let kind = view::kind_of(d, t, v, s);
     if is_btf_ext(kind) {
         return ParsedText::Functions(w);
     }
     if first_checks::untargeted(s, next) {
         return answer(view::of_section(4, s), w);
     }
-    parse_kind(d, gap, h, s, kind, order, lo, hi, group, tmp, functions, w)
+    parse_kind(d, t, v, s, kind, order, lo, hi, group, tmp, functions, w)
 }
 
 // The sections by index; functions are appended, and are never more than the symbols that were passed.
 fn parse_sections(
     d: &[u8],
-    gap: usize,
-    h: Head,
+    t: &[u32],
+    v: View,
     next: &[u32],
     order: &[u32],
     group: &mut [u32],
     tmp: &mut [u32],
     functions: &mut [u32],
 ) -> ParsedText
-    requires { ⌜ (gap ≤ 4) × NextOf (now d) gap h (now next) × (now order ≡ sorted (bySection (symbolIn (now d) gap h)) (upTo (h .symbols))) × (length (now order) ≤ length (now group)) × (length (now order) ≤ length (now tmp)) × (length (now order) ≤ length (now functions)) × Rises (now d) gap h × RelocsInside (now d) gap h ⌝ }
-    ensures { λ r. ⌜ Listed (sectionsRefused (now (d .entry)) gap h) (functionCandidates (now (d .entry)) gap h) r (now (functions .exit)) ⌝ }
+    requires { ⌜ NextOf (now d) (now t) v (now next) × (now order ≡ sorted (bySection (symbolIn (now d) (now t) v)) (upTo (v .symbols))) × (length (now order) ≤ length (now group)) × (length (now order) ≤ length (now tmp)) × (length (now order) ≤ length (now functions)) × Readable (now d) (now t) v ⌝ }
+    ensures { λ r. ⌜ Listed (sectionsRefused (now (d .entry)) (now (t .entry)) v) (functionCandidates (now (d .entry)) (now (t .entry)) v) r (now (functions .exit)) ⌝ }
 {
-    let end = h.sections;
+    let end = v.sections;
     let mut i: u32 = 0;
     let mut from: usize = 0;
     let mut w: usize = 0;
     while i < end {
-        let s = records::section(d, gap, i);
-        let at = group_of(d, gap, h, s, order, from);
+        let s = records::section(d, t, v, i);
+        let at = group_of(d, t, v, s, order, from);
         let hi = at.hi;
         match parse_section(
             d,
-            gap,
-            h,
+            t,
+            v,
             s,
             next,
             order,
@@ -245,24 +238,24 @@ fn parse_sections(
 // Numbers 4 to 17; all symbols sorted by section; the numbers of the functions, in the order of the sections.
 pub fn parse_object(
     d: &[u8],
-    gap: usize,
-    h: Head,
+    t: &[u32],
+    v: View,
     next: &mut [u32],
     order: &mut [u32],
     group: &mut [u32],
     tmp: &mut [u32],
     functions: &mut [u32],
 ) -> ParsedText
-    requires { ⌜ (gap ≤ 4) × (h .symbols ≤ 65536) × (h .relocations ≤ length (now next)) × (length (now order) ≡ h .symbols) × (h .symbols ≤ length (now group)) × (length (now tmp) ≡ h .symbols) × (h .symbols ≤ length (now functions)) × Rises (now d) gap h × RelocsInside (now d) gap h ⌝ }
-    ensures { λ r. ⌜ (now (order .exit) ≡ sorted (bySection (symbolIn (now (d .entry)) gap h)) (upTo (h .symbols))) × Listed (objectRefusal (objectIn (now (d .entry)) gap h)) (functionCandidates (now (d .entry)) gap h) r (now (functions .exit)) ⌝ }
+    requires { ⌜ (v .relocations ≤ length (now next)) × (length (now order) ≡ v .symbols) × (v .symbols ≤ length (now group)) × (length (now tmp) ≡ v .symbols) × (v .symbols ≤ length (now functions)) × Readable (now d) (now t) v ⌝ }
+    ensures { λ r. ⌜ (now (order .exit) ≡ sorted (bySection (symbolIn (now (d .entry)) (now (t .entry)) v)) (upTo (v .symbols))) × Listed (objectRefusal (objectIn (now (d .entry)) (now (t .entry)) v)) (functionCandidates (now (d .entry)) (now (t .entry)) v) r (now (functions .exit)) ⌝ }
 {
-    first_checks::next_untargeted(d, gap, h, next);
-    groups::by_section(d, gap, h, order, tmp);
-    if let Checked::Refused(r) = first_checks::license_refusal(d, gap, h, next) {
+    first_checks::next_untargeted(d, t, v, next);
+    groups::by_section(d, t, v, order, tmp);
+    if let Checked::Refused(r) = first_checks::license_refusal(d, t, v, next) {
         return ParsedText::Refused(r);
     }
-    if let Checked::Refused(r) = first_checks::version_refusal(d, gap, h, next) {
+    if let Checked::Refused(r) = first_checks::version_refusal(d, t, v, next) {
         return ParsedText::Refused(r);
     }
-    parse_sections(d, gap, h, next, order, group, tmp, functions)
+    parse_sections(d, t, v, next, order, group, tmp, functions)
 }

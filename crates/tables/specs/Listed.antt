@@ -8,7 +8,7 @@ use lib.ListN.{length, length-map}
 use lib.Seq.{length-slice}
 use Rattle.lists.specs.Tests.{true-not-false}
 use Rattle.model.specs.declared.EbpfSectionKind.{EbpfSectionKind as Kind}
-use Rattle.model.specs.declared.Head.{Head}
+use Rattle.object_view.specs.declared.View.{View}
 use Rattle.model.specs.declared.SectionRecord.{SectionRecord}
 use Rattle.model.specs.Bytes.{push, keep}
 use Rattle.model.specs.Contents.{isData}
@@ -16,7 +16,7 @@ use Rattle.model.specs.SectionKind.{isKind, kindOf}
 use Rattle.plan.specs.ByNumber.{programMembers}
 use Rattle.plan.specs.FunctionsMaps.{mapsIn}
 use Rattle.plan.specs.SectionsPrograms.{sectionsIn, programsIn}
-use Rattle.records.specs.Records.{sectionAt}
+use Rattle.records.specs.View.{sectionAt}
 use Rattle.view.specs.Group.{membersIn, programsAmong}
 use Rattle.view.specs.View.{sectionFrom, sectionIn}
 use Rattle.catalogue.specs.Numbers.{sectionsFrom, programsFrom, mapsFrom}
@@ -31,32 +31,32 @@ keep-le p (x ∷ l) = go (p x) (keep-le p l)
     go true h = omega arith
     go false h = omega arith
 
-module _ (d : List ℕ) (gap : ℕ) (h : Head) (i : ℕ) where
-  pub sections-listed : not (isKind Kind.BtfExt (kindOf (sectionIn d gap h i))) ≡ true → sectionsFrom d gap h i ≡ i ∷ []
+module _ (d t : List ℕ) (v : View) (i : ℕ) where
+  pub sections-listed : not (isKind Kind.BtfExt (kindOf (sectionIn d t v i))) ≡ true → sectionsFrom d t v i ≡ i ∷ []
   unfolding sectionsIn
-  sections-listed e = go (isKind Kind.BtfExt (kindOf (sectionIn d gap h i))) e
+  sections-listed e = go (isKind Kind.BtfExt (kindOf (sectionIn d t v i))) e
     where
       go : (b : Bool) → not b ≡ true → cond b [] (i ∷ []) ≡ i ∷ []
       go true e = true-not-false (sym e)
       go false e = refl
 
-  pub sections-skipped : not (isKind Kind.BtfExt (kindOf (sectionIn d gap h i))) ≡ false → sectionsFrom d gap h i ≡ []
+  pub sections-skipped : not (isKind Kind.BtfExt (kindOf (sectionIn d t v i))) ≡ false → sectionsFrom d t v i ≡ []
   unfolding sectionsIn
-  sections-skipped e = go (isKind Kind.BtfExt (kindOf (sectionIn d gap h i))) e
+  sections-skipped e = go (isKind Kind.BtfExt (kindOf (sectionIn d t v i))) e
     where
       go : (b : Bool) → not b ≡ false → cond b [] (i ∷ []) ≡ []
       go true e = refl
       go false e = true-not-false e
 
 -- by the section's record
-module _ (d : List ℕ) (gap : ℕ) (h : Head) (s : SectionRecord) where
+module _ (d t : List ℕ) (v : View) (s : SectionRecord) where
   abbrev kind : Kind
-  kind = kindOf (sectionFrom d gap h s)
+  kind = kindOf (sectionFrom d t v s)
 
   unfoldable pub programsBy : List ℕ
-  programsBy = cond (isKind Kind.Program kind) (programsAmong d gap h (membersIn d gap h s)) []
+  programsBy = cond (isKind Kind.Program kind) (programsAmong d t v (membersIn d t v s)) []
 
-  pub programs-listed : kind ≡ Kind.Program → programsBy ≡ programsAmong d gap h (membersIn d gap h s)
+  pub programs-listed : kind ≡ Kind.Program → programsBy ≡ programsAmong d t v (membersIn d t v s)
   unfolding programsBy
   programs-listed e = rw e
 
@@ -65,10 +65,10 @@ module _ (d : List ℕ) (gap : ℕ) (h : Head) (s : SectionRecord) where
   programs-none e = rw e
 
   unfoldable pub mapsBy : ℕ → List ℕ
-  mapsBy i = cond (isKind Kind.Maps kind) (map (λ j. h .sections + j) (membersIn d gap h s)) (cond (isData kind) (i ∷ []) [])
+  mapsBy i = cond (isKind Kind.Maps kind) (map (λ j. v .sections + j) (membersIn d t v s)) (cond (isData kind) (i ∷ []) [])
 
   module _ (i : ℕ) where
-    pub maps-legacy : kind ≡ Kind.Maps → mapsBy i ≡ map (λ j. h .sections + j) (membersIn d gap h s)
+    pub maps-legacy : kind ≡ Kind.Maps → mapsBy i ≡ map (λ j. v .sections + j) (membersIn d t v s)
     unfolding mapsBy
     maps-legacy e = rw e
 
@@ -81,32 +81,32 @@ module _ (d : List ℕ) (gap : ℕ) (h : Head) (s : SectionRecord) where
     maps-none e f = rw (e, f)
 
   -- no more than its symbols, or one
-  module _ (order : List ℕ) (from lo hi : ℕ) (g : GroupOf d gap h s order from lo hi) where
-    symbols : length (membersIn d gap h s) ≡ hi - lo
+  module _ (order : List ℕ) (from lo hi : ℕ) (g : GroupOf d t v s order from lo hi) where
+    symbols : length (membersIn d t v s) ≡ hi - lo
     symbols = ap length (sym (g .group)) ∙ length-slice lo hi order (g .within)
 
     pub programs-few : length programsBy ≤ hi - lo
     unfolding programsBy
     programs-few = rw (← symbols) (go (isKind Kind.Program kind))
       where
-        go : (b : Bool) → length (cond b (programsAmong d gap h (membersIn d gap h s)) []) ≤ length (membersIn d gap h s)
-        go true = keep-le _ (membersIn d gap h s)
+        go : (b : Bool) → length (cond b (programsAmong d t v (membersIn d t v s)) []) ≤ length (membersIn d t v s)
+        go true = keep-le _ (membersIn d t v s)
         go false = omega arith
 
     pub maps-few : (i : ℕ) → length (mapsBy i) ≤ 1 + (hi - lo)
     unfolding mapsBy
     maps-few i = rw (← symbols) (go (isKind Kind.Maps kind) (isData kind))
       where
-        go : (b c : Bool) → length (cond b (map (λ j. h .sections + j) (membersIn d gap h s)) (cond c (i ∷ []) [])) ≤ 1 + length (membersIn d gap h s)
+        go : (b c : Bool) → length (cond b (map (λ j. v .sections + j) (membersIn d t v s)) (cond c (i ∷ []) [])) ≤ 1 + length (membersIn d t v s)
         go true c = rw length-map (omega arith)
         go false true = omega arith
         go false false = omega arith
 
 -- by number
-pub programs-by : (d : List ℕ) (gap : ℕ) (h : Head) (i : ℕ) → programsFrom d gap h i ≡ programsBy d gap h (sectionAt d gap i)
+pub programs-by : (d t : List ℕ) (v : View) (i : ℕ) → programsFrom d t v i ≡ programsBy d t v (sectionAt d t v i)
 unfolding programsIn programMembers programsBy
-programs-by d gap h i = refl
+programs-by d t v i = refl
 
-pub maps-by : (d : List ℕ) (gap : ℕ) (h : Head) (i : ℕ) → mapsFrom d gap h i ≡ mapsBy d gap h (sectionAt d gap i) i
+pub maps-by : (d t : List ℕ) (v : View) (i : ℕ) → mapsFrom d t v i ≡ mapsBy d t v (sectionAt d t v i) i
 unfolding mapsIn mapsBy
-maps-by d gap h i = refl
+maps-by d t v i = refl

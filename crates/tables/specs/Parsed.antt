@@ -7,7 +7,7 @@ use native.Mathlib.Omega.{arith}
 use lib.ListN.{length, take, length-take}
 use lib.Seq.{length-take-le, take-at, take-append-le}
 use Rattle.lists.specs.Tests.{not-some}
-use Rattle.model.specs.declared.Head.{Head}
+use Rattle.object_view.specs.declared.View.{View}
 use Rattle.model.specs.declared.Refusal.{Refusal}
 use Rattle.model.specs.Refusals.{objectRefusal}
 use Rattle.view.specs.View.{objectIn}
@@ -58,30 +58,30 @@ abbrev pub tablesOf : Option Refusal → Counts → Tables
 tablesOf none c = Tables.Numbers c
 tablesOf (some q) c = Tables.Refused q
 
-module _ (d : List ℕ) (gap : ℕ) (h : Head) where
+module _ (d t : List ℕ) (v : View) where
   abbrev pub countsOf : Counts
   countsOf =
       record {
-        sections = length (sectionNumbers d gap h);
-        programs = length (programNumbers d gap h);
-        functions = length (functionNumbers d gap h);
-        maps = length (mapNumbers d gap h);
+        sections = length (sectionNumbers d t v);
+        programs = length (programNumbers d t v);
+        functions = length (functionNumbers d t v);
+        maps = length (mapNumbers d t v);
       }
 
   -- the four tables, each at the front of its list
   pub record Held (sections programs functions maps : List ℕ) : Type 0 where
-    pub of-sections : Front (sectionNumbers d gap h) sections
-    pub of-programs : Front (programNumbers d gap h) programs
-    pub of-functions : Front (functionNumbers d gap h) functions
-    pub of-maps : Front (mapNumbers d gap h) maps
+    pub of-sections : Front (sectionNumbers d t v) sections
+    pub of-programs : Front (programNumbers d t v) programs
+    pub of-functions : Front (functionNumbers d t v) functions
+    pub of-maps : Front (mapNumbers d t v) maps
 
   pub record Parsed (r : Tables) (sections programs functions maps : List ℕ) : Type 0 where
-    pub answer : r ≡ tablesOf (objectRefusal (objectIn d gap h)) countsOf
-    pub numbers : objectRefusal (objectIn d gap h) ≡ none → Held sections programs functions maps
+    pub answer : r ≡ tablesOf (objectRefusal (objectIn d t v)) countsOf
+    pub numbers : objectRefusal (objectIn d t v) ≡ none → Held sections programs functions maps
 
   module _ (s p f m : List ℕ) where
-    pub parsed-refused : (x : Refusal) → objectRefusal (objectIn d gap h) ≡ some x → Parsed (Tables.Refused x) s p f m
+    pub parsed-refused : (x : Refusal) → objectRefusal (objectIn d t v) ≡ some x → Parsed (Tables.Refused x) s p f m
     parsed-refused x e = record { answer = rw e; numbers = λ z. not-some x (sym e ∙ z) }
 
-    pub parsed-numbers : (r : Counts) → objectRefusal (objectIn d gap h) ≡ none → r ≡ countsOf → Held s p f m → Parsed (Tables.Numbers r) s p f m
+    pub parsed-numbers : (r : Counts) → objectRefusal (objectIn d t v) ≡ none → r ≡ countsOf → Held s p f m → Parsed (Tables.Numbers r) s p f m
     parsed-numbers r e c t = record { answer = ap Tables.Numbers c ∙ rw e; numbers = λ z. t }

@@ -7,10 +7,10 @@ use Prim.Native.Nat.{ℕ, _+_, _<_, _≤_}
 use borrow.Author.Tests.{eq-eqb, ne-eqb}
 use lib.Dec.{eqb}
 use lib.ListN.{length, getD}
-use Rattle.model.specs.declared.Head.{Head}
+use Rattle.object_view.specs.declared.View.{View}
 use Rattle.model.specs.declared.SymbolRecord.{SymbolRecord}
 use Rattle.plan.specs.Shared.{earlier, earlier-join, leastAgain}
-use Rattle.records.specs.Records.{symbolAt}
+use Rattle.records.specs.View.{symbolAt}
 use Rattle.view.specs.View.{definedRecord, symbolFrom, text-by-record}
 use Rattle.text.specs.declared.Conflict.{Conflict}
 use Rattle.text.specs.declared.Again.{Again}
@@ -116,17 +116,17 @@ module _ (addr : ℕ → ℕ) where
       go true true e = rw (e, number-back, earlier-join) (ap (λ o. conflictOf (earlier n (earlier (some j) o))) (first-after j l))
 
 -- the symbol at place k
-pub answer-next : (d : List ℕ) (gap : ℕ) (h : Head) (a : Again) (order : List ℕ) (k hi : ℕ) → k < hi → hi ≤ length order
-    → answer (addressIn d gap h) a (textGroup d gap h order k hi)
-    ≡ answer (addressIn d gap h) (againNext a (getD order k 0) (symbolAt d gap h (getD order k 0))) (textGroup d gap h order (k + 1) hi)
+pub answer-next : (d t : List ℕ) (v : View) (a : Again) (order : List ℕ) (k hi : ℕ) → k < hi → hi ≤ length order
+    → answer (addressIn d t v) a (textGroup d t v order k hi)
+    ≡ answer (addressIn d t v) (againNext a (getD order k 0) (symbolAt d t v (getD order k 0))) (textGroup d t v order (k + 1) hi)
 unfolding againNext symbolFrom
-answer-next d gap h a order k hi p q = go (definedRecord y) refl
+answer-next d t v a order k hi p q = go (definedRecord y) refl
   where
     y : SymbolRecord
-    y = symbolAt d gap h (getD order k 0)
+    y = symbolAt d t v (getD order k 0)
 
     go : (b : Bool) → definedRecord y ≡ b
-        → answer (addressIn d gap h) a (textGroup d gap h order k hi)
-        ≡ answer (addressIn d gap h) (cond b (again a (getD order k 0) (y .address)) a) (textGroup d gap h order (k + 1) hi)
-    go true e = ap (answer (addressIn d gap h) a) (group-text d gap h order k hi p q (text-by-record d gap h y ∙ e)) ∙ answer-again (addressIn d gap h) a (getD order k 0) (textGroup d gap h order (k + 1) hi)
-    go false e = ap (answer (addressIn d gap h) a) (group-other d gap h order k hi p q (text-by-record d gap h y ∙ e))
+        → answer (addressIn d t v) a (textGroup d t v order k hi)
+        ≡ answer (addressIn d t v) (cond b (again a (getD order k 0) (y .address)) a) (textGroup d t v order (k + 1) hi)
+    go true e = ap (answer (addressIn d t v) a) (group-text d t v order k hi p q (text-by-record d t v y ∙ e)) ∙ answer-again (addressIn d t v) a (getD order k 0) (textGroup d t v order (k + 1) hi)
+    go false e = ap (answer (addressIn d t v) a) (group-other d t v order k hi p q (text-by-record d t v y ∙ e))

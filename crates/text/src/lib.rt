@@ -9,12 +9,12 @@ ghost use Rattle.view.specs.Checked.{checkedOf};
 ghost use Rattle.text.specs.Group.{addressIn, textGroup, textIn};
 ghost use Rattle.text.specs.Again.{conflictOf, numberOf, againNext};
 ghost use Rattle.text.specs.Parsed.{refusal, unknownSymbol, invalidSymbol, Walked, Parsed};
-use model::Head;
 use model::Refusal;
 use model::SectionIndex;
 use model::SectionRecord;
 use model::SymbolIndex;
 use model::SymbolRecord;
+use object_view::View;
 use view::Checked;
 
 const LAST_ADDRESS: u64 = 0xFFFF_FFFF_FFFF_FFFF;
@@ -25,7 +25,7 @@ pub enum Conflict {
     Nothing,
 }
 
-// What parsing a text section answers: how far the numbers of its functions reach, or why the deposit goes back.
+// What parsing a text section answers: how far the numbers of its functions reach, or why the object is refused.
 pub enum ParsedText {
     Functions(usize),
     Refused(Refusal),
@@ -79,14 +79,14 @@ impl Again {
 // The least symbol number of the defined text among order[lo..hi] that has the address of the one before it.
 pub fn symbol_table_conflict(
     d: &[u8],
-    gap: usize,
-    h: Head,
+    t: &[u32],
+    v: View,
     order: &[u32],
     lo: usize,
     hi: usize,
 ) -> Conflict
-    requires { ⌜ (gap ≤ 4) × (lo ≤ hi) × (hi ≤ length (now order)) ⌝ }
-    ensures { λ r. ⌜ r ≡ conflictOf (leastAgain (addressIn (now (d .entry)) gap h) (textGroup (now (d .entry)) gap h (now (order .entry)) lo hi)) ⌝ }
+    requires { ⌜ (lo ≤ hi) × (hi ≤ length (now order)) ⌝ }
+    ensures { λ r. ⌜ r ≡ conflictOf (leastAgain (addressIn (now (d .entry)) (now (t .entry)) v) (textGroup (now (d .entry)) (now (t .entry)) v (now (order .entry)) lo hi)) ⌝ }
 {
     let mut a = Again {
         seen: false,
@@ -96,7 +96,7 @@ pub fn symbol_table_conflict(
     let mut k = lo;
     while k < hi {
         let j = order[k];
-        a = a.next(j, records::symbol(d, gap, h, j));
+        a = a.next(j, records::symbol(d, t, v, j));
         k += 1;
     }
     a.least
@@ -141,8 +141,8 @@ pub fn invalid_symbol(s: SectionRecord, y: SymbolRecord, offset: u64) -> Checked
 // 12 to 15; the search for the next address goes on from where it stands.
 fn walk(
     d: &[u8],
-    gap: usize,
-    h: Head,
+    t: &[u32],
+    v: View,
     s: SectionRecord,
     order: &[u32],
     lo: usize,
@@ -150,9 +150,9 @@ fn walk(
     out: &mut [u32],
     w: usize,
 ) -> ParsedText
-    requires { ⌜ (gap ≤ 4) × (lo ≤ hi) × (hi ≤ length (now order)) × (w + (hi - lo) ≤ length (now out)) ⌝ }
-    requires { ⌜ textGroup (now d) gap h (now order) lo hi ≡ textIn (now d) gap h (sectionFrom (now d) gap h s) ⌝ }
-    ensures { λ r. ⌜ Walked (now (d .entry)) gap h s (now (out .entry)) w r (now (out .exit)) ⌝ }
+    requires { ⌜ (lo ≤ hi) × (hi ≤ length (now order)) × (w + (hi - lo) ≤ length (now out)) ⌝ }
+    requires { ⌜ textGroup (now d) (now t) v (now order) lo hi ≡ textIn (now d) (now t) v (sectionFrom (now d) (now t) v s) ⌝ }
+    ensures { λ r. ⌜ Walked (now (d .entry)) (now (t .entry)) v s (now (out .entry)) w r (now (out .exit)) ⌝ }
 {
     let len = stream::wide64(s.bytes.length);
     let start = s.address;
@@ -170,7 +170,7 @@ fn walk(
             }
             let j = order[k];
             k += 1;
-            let y = records::symbol(d, gap, h, j);
+            let y = records::symbol(d, t, v, j);
             if view::is_defined_text(y) {
                 if y.address == address {
                     break j;
@@ -180,7 +180,7 @@ fn walk(
                 }
             }
         };
-        let y = records::symbol(d, gap, h, found);
+        let y = records::symbol(d, t, v, found);
         if let Checked::Refused(r) = invalid_symbol(s, y, offset) {
             return ParsedText::Refused(r);
         }
@@ -194,8 +194,8 @@ fn walk(
 // Numbers 11 to 15 of a text section, and the numbers of its functions, stored from out[w] on. order[lo..hi] has the section's symbols in order of address.
 pub fn parse_text_section(
     d: &[u8],
-    gap: usize,
-    h: Head,
+    t: &[u32],
+    v: View,
     s: SectionRecord,
     order: &[u32],
     lo: usize,
@@ -203,15 +203,15 @@ pub fn parse_text_section(
     out: &mut [u32],
     w: usize,
 ) -> ParsedText
-    requires { ⌜ (gap ≤ 4) × (lo ≤ hi) × (hi ≤ length (now order)) × (w + (hi - lo) ≤ length (now out)) ⌝ }
-    requires { ⌜ textGroup (now d) gap h (now order) lo hi ≡ textIn (now d) gap h (sectionFrom (now d) gap h s) ⌝ }
-    ensures { λ r. ⌜ Parsed (now (d .entry)) gap h s (now (out .entry)) w r (now (out .exit)) ⌝ }
+    requires { ⌜ (lo ≤ hi) × (hi ≤ length (now order)) × (w + (hi - lo) ≤ length (now out)) ⌝ }
+    requires { ⌜ textGroup (now d) (now t) v (now order) lo hi ≡ textIn (now d) (now t) v (sectionFrom (now d) (now t) v s) ⌝ }
+    ensures { λ r. ⌜ Parsed (now (d .entry)) (now (t .entry)) v s (now (out .entry)) w r (now (out .exit)) ⌝ }
 {
-    match symbol_table_conflict(d, gap, h, order, lo, hi) {
+    match symbol_table_conflict(d, t, v, order, lo, hi) {
         Conflict::At(j) => {
-            let y = records::symbol(d, gap, h, j);
+            let y = records::symbol(d, t, v, j);
             ParsedText::Refused(refused(11, s.index, y.index))
         }
-        Conflict::Nothing => walk(d, gap, h, s, order, lo, hi, out, w),
+        Conflict::Nothing => walk(d, t, v, s, order, lo, hi, out, w),
     }
 }

@@ -9,19 +9,18 @@ use lib.Dec.{ltb}
 use lib.ListN.{length, getD}
 use lib.Seq.{slice}
 use Rattle.lists.specs.Tab.{tab}
-use Rattle.model.specs.declared.Head.{Head}
+use Rattle.object_view.specs.declared.View.{View}
 use Rattle.model.specs.declared.Refusal.{Refusal}
 use Rattle.model.specs.declared.SectionIndex.{SectionIndex}
 use Rattle.model.specs.declared.SectionRecord.{SectionRecord}
 use Rattle.model.specs.declared.SymbolIndex.{SymbolIndex}
 use Rattle.model.specs.declared.SymbolRecord.{SymbolRecord}
 use Rattle.model.specs.Bytes.{keep}
-use Rattle.model.specs.Deposit.{byteOrder}
 use Rattle.model.specs.Refusals.{isEmpty, passes}
 use Rattle.model.specs.Symbols.{top, liesIn, symbolsOf, programSymbols, isProgram}
 use Rattle.plan.specs.ByNumber.{members, programMembers, symbols-by, programs-by}
 use Rattle.plan.specs.Groups.{kept-below}
-use Rattle.records.specs.Records.{dataAt}
+use Rattle.records.specs.View.{gapOf}
 use Rattle.stream.specs.Stream.{length-bytes}
 use Rattle.view.specs.View.{sectionFrom, symbolFrom, sectionIn, symbolIn, objectIn}
 
@@ -29,36 +28,36 @@ use Rattle.view.specs.View.{sectionFrom, symbolFrom, sectionIn, symbolIn
 abbrev pub pastData : ℕ → SymbolRecord → Bool
 pastData n y = ltb n (y .address + y .size) || ltb top (y .address + y .size)
 
-module _ (d : List ℕ) (gap : ℕ) (h : Head) where
+module _ (d t : List ℕ) (v : View) where
   -- the numbers of a section's symbols
   abbrev pub membersIn : SectionRecord → List ℕ
-  membersIn s = members (byteOrder (h .order)) (tab (sectionIn d gap h) (h .sections)) (symbolIn d gap h) (h .symbols) (sectionFrom d gap h s)
+  membersIn s = members (v .order) (tab (sectionIn d t v) (v .sections)) (symbolIn d t v) (v .symbols) (sectionFrom d t v s)
 
   -- of some symbols those that are programs
   abbrev pub programsAmong : List ℕ → List ℕ
-  programsAmong js = keep (λ j. isProgram (symbolIn d gap h j)) js
+  programsAmong js = keep (λ j. isProgram (symbolIn d t v j)) js
 
   module _ (s : SectionRecord) where
-    pub symbols-in : symbolsOf (objectIn d gap h) (sectionFrom d gap h s) ≡ map (symbolIn d gap h) (membersIn s)
+    pub symbols-in : symbolsOf (objectIn d t v) (sectionFrom d t v s) ≡ map (symbolIn d t v) (membersIn s)
     unfolding objectIn
-    symbols-in = symbols-by (byteOrder (h .order)) (tab (sectionIn d gap h) (h .sections)) (symbolIn d gap h) (h .symbols) (sectionFrom d gap h s)
+    symbols-in = symbols-by (v .order) (tab (sectionIn d t v) (v .sections)) (symbolIn d t v) (v .symbols) (sectionFrom d t v s)
 
-    pub programs-in : programSymbols (objectIn d gap h) (sectionFrom d gap h s) ≡ map (symbolIn d gap h) (programsAmong (membersIn s))
+    pub programs-in : programSymbols (objectIn d t v) (sectionFrom d t v s) ≡ map (symbolIn d t v) (programsAmong (membersIn s))
     unfolding objectIn programMembers
-    programs-in = programs-by (byteOrder (h .order)) (tab (sectionIn d gap h) (h .sections)) (symbolIn d gap h) (h .symbols) (sectionFrom d gap h s)
+    programs-in = programs-by (v .order) (tab (sectionIn d t v) (v .sections)) (symbolIn d t v) (v .symbols) (sectionFrom d t v s)
 
     -- a number of the group is a symbol's
-    pub member-below : (lo hi k : ℕ) (order : List ℕ) → slice lo hi order ≡ membersIn s → hi ≤ length order → lo ≤ k → k < hi → getD order k 0 < h .symbols
+    pub member-below : (lo hi k : ℕ) (order : List ℕ) → slice lo hi order ≡ membersIn s → hi ≤ length order → lo ≤ k → k < hi → getD order k 0 < v .symbols
     unfolding members
-    member-below lo hi k order e = kept-below (λ j. liesIn (sectionFrom d gap h s .index) (symbolIn d gap h j .section)) (h .symbols) lo hi k order e
+    member-below lo hi k order e = kept-below (λ j. liesIn (sectionFrom d t v s .index) (symbolIn d t v j .section)) (v .symbols) lo hi k order e
 
-  pub some-symbol : (js : List ℕ) → 0 < length js → isEmpty (map (symbolIn d gap h) js) ≡ false
+  pub some-symbol : (js : List ℕ) → 0 < length js → isEmpty (map (symbolIn d t v) js) ≡ false
   some-symbol [] l = absurd (not-suc-le-zero l)
   some-symbol (j ∷ js) l = refl
 
-  pub past-by-record : (s : SectionRecord) (y : SymbolRecord) → passes (sectionFrom d gap h s .bytes) (symbolFrom d gap h y) ≡ pastData (s .bytes .length) y
+  pub past-by-record : (s : SectionRecord) (y : SymbolRecord) → passes (sectionFrom d t v s .bytes) (symbolFrom d t v y) ≡ pastData (s .bytes .length) y
   unfolding passes sectionFrom symbolFrom
-  past-by-record s y = rw (length-bytes d gap (dataAt h + s .bytes .at) (s .bytes .length))
+  past-by-record s y = rw (length-bytes d (gapOf v) (v .at .bytes + s .bytes .at) (s .bytes .length))
 
 -- the refusal that a number other than 0 stands for
 abbrev pub faultOf : ℕ → SectionIndex → SymbolIndex → Option Refusal

@@ -1,4 +1,4 @@
--- What a deposit's records stand for: the sections and symbols of its object, by number.
+-- What an object's records stand for: the sections and symbols of its object, by number.
 use mathlib.Core.Path.{_≡_, refl, sym}
 use mathlib.Core.Bool.{Bool, true, false, cond, _&&_, not}
 use mathlib.Core.List.{List, []}
@@ -8,38 +8,33 @@ use borrow.Author.Tests.{lt-ltb}
 use lib.Dec.{eqb, ltb}
 use Rattle.lists.specs.Tab.{tab}
 use Rattle.model.specs.declared.Extent.{Extent}
-use Rattle.model.specs.declared.Head.{Head}
+use Rattle.object_view.specs.declared.View.{View}
 use Rattle.model.specs.declared.SectionRecord.{SectionRecord}
 use Rattle.model.specs.declared.SymbolRecord.{SymbolRecord}
 use Rattle.model.specs.declared.SymbolKind.{SymbolKind}
 use Rattle.model.specs.Bytes.{same}
 use Rattle.model.specs.Object.{Reloc, Section, Symbol, Object}
 use Rattle.model.specs.Symbols.{isText, isProgram}
-use Rattle.model.specs.Deposit.{unlessNone, relocOf, symbolKind, byteOrder}
+use Rattle.model.specs.Deposit.{unlessNone, relocOf, symbolKind}
 use Rattle.stream.specs.Stream.{bytesAt}
 use Rattle.plan.specs.ByNumber.{isDefinedText}
-use Rattle.records.specs.Records.{namesAt, dataAt, sectionAt, symbolAt, relocationAt}
+use Rattle.plan.specs.SectionsPrograms.{Rising}
+use Rattle.records.specs.View.{gapOf, nameIn, dataIn, sectionAt, symbolAt, relocationAt}
+use Rattle.records.specs.Readable.{SectionsRise}
 
-module _ (d : List ℕ) (gap : ℕ) (h : Head) where
-  -- the bytes of a range of the names, and of the data
-  abbrev pub nameIn : Extent → List ℕ
-  nameIn e = bytesAt d gap (namesAt h + e .at) (e .length)
-
-  abbrev pub dataIn : Extent → List ℕ
-  dataIn e = bytesAt d gap (dataAt h + e .at) (e .length)
-
+module _ (d t : List ℕ) (v : View) where
   unfoldable pub relocIn : ℕ → Reloc
-  relocIn k = relocOf (relocationAt d gap h k)
+  relocIn k = relocOf (relocationAt d t v k)
 
   unfoldable pub sectionFrom : SectionRecord → Section
   sectionFrom r =
       record {
         index = r .index;
         text = eqb (r .mark) 1;
-        name = nameIn (r .name);
+        name = nameIn d v (r .name);
         address = r .address;
         size = r .size;
-        bytes = dataIn (r .bytes);
+        bytes = dataIn d v (r .bytes);
         relocs = tab (λ k. relocIn (r .relocations .at + k)) (r .relocations .length);
       }
 
@@ -48,7 +43,7 @@ module _ (d : List ℕ) (gap : ℕ) (h : Head) where
       record {
         index = r .index;
         section = unlessNone (r .section .0) (r .section);
-        name = nameIn (r .name);
+        name = nameIn d v (r .name);
         address = r .address;
         size = r .size;
         kind = symbolKind (r .kind);
@@ -56,13 +51,18 @@ module _ (d : List ℕ) (gap : ℕ) (h : Head) where
       }
 
   abbrev pub sectionIn : ℕ → Section
-  sectionIn i = sectionFrom (sectionAt d gap i)
+  sectionIn i = sectionFrom (sectionAt d t v i)
 
   abbrev pub symbolIn : ℕ → Symbol
-  symbolIn j = symbolFrom (symbolAt d gap h j)
+  symbolIn j = symbolFrom (symbolAt d t v j)
 
   unfoldable pub objectIn : Object
-  objectIn = record { order = byteOrder (h .order); sections = tab sectionIn (h .sections); symbols = tab symbolIn (h .symbols) }
+  objectIn = record { order = v .order; sections = tab sectionIn (v .sections); symbols = tab symbolIn (v .symbols) }
+
+  -- the indexes of the object's sections rise with those of the records
+  pub rising : SectionsRise d t v → Rising (v .order) sectionIn (v .sections) symbolIn (v .symbols)
+  unfolding sectionFrom
+  rising rise = rise
 
 -- ---- tests of a symbol, by its record alone
 
@@ -87,10 +87,10 @@ unfolding bytesAt same
 no-name d gap p zero = refl
 no-name d gap p (suc n) = sym (lt-ltb 0 (suc n) (omega arith))
 
-pub program-by-record : (d : List ℕ) (gap : ℕ) (h : Head) (r : SymbolRecord) → isProgram (symbolFrom d gap h r) ≡ namedText r
+pub program-by-record : (d t : List ℕ) (v : View) (r : SymbolRecord) → isProgram (symbolFrom d t v r) ≡ namedText r
 unfolding isProgram symbolFrom
-program-by-record d gap h r = λ k. text-kind (r .kind) k && no-name d gap (namesAt h + r .name .at) (r .name .length) k
+program-by-record d t v r = λ k. text-kind (r .kind) k && no-name d (gapOf v) (v .at .names + r .name .at) (r .name .length) k
 
-pub text-by-record : (d : List ℕ) (gap : ℕ) (h : Head) (r : SymbolRecord) → isDefinedText (symbolFrom d gap h r) ≡ definedRecord r
+pub text-by-record : (d t : List ℕ) (v : View) (r : SymbolRecord) → isDefinedText (symbolFrom d t v r) ≡ definedRecord r
 unfolding symbolFrom
-text-by-record d gap h r = λ k. text-kind (r .kind) k && eqb (r .definition) 1
+text-by-record d t v r = λ k. text-kind (r .kind) k && eqb (r .definition) 1

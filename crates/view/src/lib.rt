@@ -1,19 +1,19 @@
-// What a deposit's records stand for: the kind of a section, and which symbols are programs or defined text.
+// What an object's records stand for: the kind of a section, and which symbols are programs or defined text.
 ghost use mathlib.Core.Path.{_≡_};
 ghost use Prim.Native.Nat.{_≤_};
 ghost use Rattle.model.specs.Refusals.{noSymbol};
 ghost use Rattle.model.specs.SectionKind.{kindOf};
 ghost use Rattle.view.specs.View.{sectionFrom, namedText, definedRecord};
 use model::EbpfSectionKind;
-use model::Head;
 use model::Refusal;
 use model::SectionRecord;
 use model::SymbolIndex;
 use model::SymbolRecord;
-use records::names_at;
+use object_view::View;
+use records::name_at;
 use stream::size;
 
-// What a check of a part of the object finds: nothing, or why the deposit goes back.
+// What a check of a part of the object finds: nothing, or why the object is refused.
 pub enum Checked {
     Fine,
     Refused(Refusal),
@@ -46,13 +46,12 @@ pub fn of_symbol(number: u32, s: SectionRecord, y: SymbolRecord) -> Checked
     })
 }
 
-pub fn kind_of(d: &[u8], gap: usize, h: Head, s: SectionRecord) -> EbpfSectionKind
-    requires { ⌜ gap ≤ 4 ⌝ }
-    ensures { λ r. ⌜ r ≡ kindOf (sectionFrom (now (d .entry)) gap h s) ⌝ }
+pub fn kind_of(d: &[u8], t: &[u32], v: View, s: SectionRecord) -> EbpfSectionKind
+    ensures { λ r. ⌜ r ≡ kindOf (sectionFrom (now (d .entry)) (now (t .entry)) v s) ⌝ }
 {
-    let at = names_at(h) + size(s.name.at);
+    let at = name_at(v, s.name);
     let n = size(s.name.length);
-    let kind = section_kind::from_name(d, gap, at, n);
+    let kind = section_kind::from_name(d, records::gap(v), at, n);
     section_kind::or_program(kind, s.mark == 1, s.size)
 }
 

@@ -21,9 +21,9 @@ same-length-2 c = search needs
 
 returns : tie.Need-returns
 returns c =
-    let s = c .before .before .before .before .before .before .before .before .before .before .before .before .before .before in
+    let s = c .before .before .before .before .before .before .before .before .before .before .before .before .before .before .before in
     let a = s .args in
-    name-order (now (a .d)) (a .gap) (a .h) _ _ (c .before .before .before .before .before .before .before .before .before .count-up .ensures ∙ ap upTo (s .pre .2)) (c .before .before .before .before .sort .ensures)
+    name-order (now (a .d)) (now (a .t)) (a .v) _ _ (c .before .before .before .before .before .before .before .before .before .count-up .ensures ∙ ap upTo (s .pre .1)) (c .before .before .before .before .sort .ensures)
 
 pub by-name-spec : {M : Type 1} → statement M
 by-name-spec =

@@ -14,12 +14,12 @@ use Rattle.bearers.proofs.lower_bound.Statement.{statement}
 use Rattle.bearers.proofs.lower_bound.Tie as tie
 
 abbrev Inv-loop : tie.InvT-loop
-Inv-loop d gap h order word low₀ high₀ low high =
-    (low ≤ high) × (high ≤ length order) × ((i : ℕ) → i < low → before (keyAt (nameOf d gap h) word order i) word ≡ true)
-    × ((i : ℕ) → high ≤ i → i < length order → before (keyAt (nameOf d gap h) word order i) word ≡ false)
+Inv-loop d t v order word low₀ high₀ low high =
+    (low ≤ high) × (high ≤ length order) × ((i : ℕ) → i < low → before (keyAt (nameOf d t v) word order i) word ≡ true)
+    × ((i : ℕ) → high ≤ i → i < length order → before (keyAt (nameOf d t v) word order i) word ≡ false)
 
 abbrev μ-loop : tie.MeasureT-loop
-μ-loop d gap h order word low₀ high₀ low high = high - low
+μ-loop d t v order word low₀ high₀ low high = high - low
 
 loop-holds : tie.Need-loop-holds Inv-loop μ-loop
 loop-holds c = (omega arith, omega arith, λ i l. absurd (not-suc-le-zero l), λ i l m. let no : ⊥ = omega arith in absurd no)
@@ -45,17 +45,17 @@ add-low c = search needs
 loop-less : tie.Need-loop-less Inv-loop μ-loop
 loop-less c = search needs
 
-ordered : (s : tie.Start Inv-loop μ-loop) → Ordered (byKey (nameOf (now (s .args .d)) (s .args .gap) (s .args .h))) (now (s .args .order))
-ordered s = rw (s .pre .1) (by-name-ordered (now (s .args .d)) (s .args .gap) (s .args .h))
+ordered : (s : tie.Start Inv-loop μ-loop) → Ordered (byKey (nameOf (now (s .args .d)) (now (s .args .t)) (s .args .v))) (now (s .args .order))
+ordered s = rw (s .pre .0) (by-name-ordered (now (s .args .d)) (now (s .args .t)) (s .args .v))
 
 loop-again : tie.Need-loop-again Inv-loop μ-loop
 loop-again c =
     let l = c .before .before .before .before .loop in
-    let s = c .before .before .before .before .before .before .before .before in
+    let s = c .before .before .before .before .before .before .before .before .before in
     let a = s .args in
     let m = l .low + (l .high - l .low) / 2 in
     let t : m < length (now (a .order)) = omega arith in
-    (omega arith, omega arith, all-below (nameOf (now (a .d)) (a .gap) (a .h)) (now (a .word)) (now (a .order)) (ordered s) m t (sym (c .before .is-before .ensures) ∙ c .if1 .taken), l .inv .3)
+    (omega arith, omega arith, all-below (nameOf (now (a .d)) (now (a .t)) (a .v)) (now (a .word)) (now (a .order)) (ordered s) m t (sym (c .before .is-before .ensures) ∙ c .if1 .taken), l .inv .3)
 
 loop-less-2 : tie.Need-loop-less-2 Inv-loop μ-loop
 loop-less-2 c = search needs
@@ -63,10 +63,10 @@ loop-less-2 c = search needs
 loop-again-2 : tie.Need-loop-again-2 Inv-loop μ-loop
 loop-again-2 c =
     let l = c .before .before .before .before .loop in
-    let s = c .before .before .before .before .before .before .before .before in
+    let s = c .before .before .before .before .before .before .before .before .before in
     let a = s .args in
     let m = l .low + (l .high - l .low) / 2 in
-    (omega arith, omega arith, l .inv .2, all-above (nameOf (now (a .d)) (a .gap) (a .h)) (now (a .word)) (now (a .order)) (ordered s) m (sym (c .before .is-before .ensures) ∙ c .if1 .left))
+    (omega arith, omega arith, l .inv .2, all-above (nameOf (now (a .d)) (now (a .t)) (a .v)) (now (a .word)) (now (a .order)) (ordered s) m (sym (c .before .is-before .ensures) ∙ c .if1 .left))
 
 returns : tie.Need-returns Inv-loop μ-loop
 returns c =

@@ -19,15 +19,15 @@ enum-known-n c = search needs
 returns : tie.Need-returns
 returns c =
     let n = c .before .before in
-    let a = n .before .before .args in
-    sym (ap length (licence-gpl (now (a .d)) (a .gap) (a .h) (sym (c .enum-told .given .1) ∙ n .license-of .ensures)))
+    let a = n .before .before .before .args in
+    sym (ap length (licence-gpl (now (a .d)) (now (a .t)) (a .v) (sym (c .enum-told .given .1) ∙ n .license-of .ensures)))
 
 returns-2 : tie.Need-returns-2
 returns-2 c =
     let k = c .before in
     let n = k .before .before in
-    let a = n .before .before .args in
-    sym (licence-length (now (a .d)) (a .gap) (a .h) (k .n .given .0 .0) (k .n .given .0 .1 .0) (sym (k .n .given .1) ∙ n .license-of .ensures))
+    let a = n .before .before .before .args in
+    sym (licence-length (now (a .d)) (now (a .t)) (a .v) (k .n .given .0 .0) (k .n .given .0 .1 .0) (sym (k .n .given .1) ∙ n .license-of .ensures))
 
 pub license-length-spec : {M : Type 1} → statement M
 license-length-spec =

@@ -5,6 +5,7 @@ use native.Mathlib.Nat.{zero-add}
 use native.Mathlib.Omega.{arith}
 use denote.Ref.{now}
 use Rattle.stream.specs.Stream.{place}
+use Rattle.records.specs.View.{gapOf}
 use Rattle.bytes.specs.Licence.{licence-gpl, licence-stands, licence-length, licence-placed}
 use borrow.Author.Needs.{needs}
 use Rattle.bytes.proofs.put_license.Statement.{statement}
@@ -23,25 +24,28 @@ copy8-requires : tie.Need-copy8-requires
 copy8-requires c κs =
     let t = c .before .before in
     let n = t .before .before in
-    let z = n .before .before .before in
+    let z = n .before .before .before .before in
     let a = z .args in
-    rw (licence-gpl (now (a .d)) (a .gap) (a .h) (sym (t .enum-told .given .1) ∙ n .license-of .ensures)) at (z .pre .1)
+    rw (licence-gpl (now (a .d)) (now (a .t)) (a .v) (sym (t .enum-told .given .1) ∙ n .license-of .ensures)) at (z .pre .1)
 
 enum-known-at : tie.Need-enum-known-at
 enum-known-at c = search needs
 
+gap-requires : tie.Need-gap-requires
+gap-requires c κs = search needs
+
 copy-stream-requires : tie.Need-copy-stream-requires
 copy-stream-requires c κs =
-    let k = c .before .before in
+    let k = c .before .before .before in
     let n = k .before .before in
-    let z = n .before .before .before in
+    let z = n .before .before .before .before in
     let a = z .args in
     let at = k .at .given .0 .0 in
     let m = k .at .given .0 .1 .0 in
     let e = sym (k .at .given .1) ∙ n .license-of .ensures in
-    let p = licence-placed (now (a .d)) (a .gap) (a .h) at m e (z .pre .0) in
-    let l : at + m ≤ place (a .gap) (at + m) = omega arith in
-    (z .pre .0 .gap-small, omega (arith, p .0, z .pre .0 .short), p .0, omega (arith, licence-length (now (a .d)) (a .gap) (a .h) at m e, z .pre .1))
+    let p = licence-placed (now (a .d)) (now (a .t)) (a .v) at m e (z .pre .0) in
+    let l : at + m ≤ place (gapOf (a .v)) (at + m) = omega arith in
+    (c .before .gap .ensures .1, omega (arith, p .0, z .pre .0 .short), rw (c .before .gap .ensures .0) (p .0), omega (arith, licence-length (now (a .d)) (now (a .t)) (a .v) at m e, z .pre .1))
 
 same-length : tie.Need-same-length
 same-length c = search needs
@@ -51,8 +55,8 @@ returns c =
     let k = c .before .before in
     let t = k .before .before .before in
     let n = t .before .before in
-    let a = n .before .before .before .args in
-    let e = licence-gpl (now (a .d)) (a .gap) (a .h) (sym (t .enum-told .given .1) ∙ n .license-of .ensures) in
+    let a = n .before .before .before .before .args in
+    let e = licence-gpl (now (a .d)) (now (a .t)) (a .v) (sym (t .enum-told .given .1) ∙ n .license-of .ensures) in
     (rw e, rw e (k .copy8 .ensures))
 
 same-length-2 : tie.Need-same-length-2
@@ -61,13 +65,14 @@ same-length-2 c = search needs
 returns-2 : tie.Need-returns-2
 returns-2 c =
     let f = c .before .before in
-    let k = f .before .before .before in
+    let g = f .before .before .gap in
+    let k = f .before .before .before .before in
     let n = k .before .before in
-    let a = n .before .before .before .args in
+    let a = n .before .before .before .before .args in
     let at = k .at .given .0 .0 in
     let m = k .at .given .0 .1 .0 in
     let e = sym (k .at .given .1) ∙ n .license-of .ensures in
-    (sym (licence-length (now (a .d)) (a .gap) (a .h) at m e), rw (licence-stands (now (a .d)) (a .gap) (a .h) at m e) (rw (zero-add m) at (f .copy-stream .ensures)))
+    (sym (licence-length (now (a .d)) (now (a .t)) (a .v) at m e), rw (licence-stands (now (a .d)) (now (a .t)) (a .v) at m e) (rw (zero-add m, g .ensures .0) at (f .copy-stream .ensures)))
 
 pub put-license-spec : {M : Type 1} → statement M
 put-license-spec =
@@ -78,6 +83,7 @@ put-license-spec =
     slice-aggregate-copy8
     copy8-requires
     enum-known-at
+    gap-requires
     copy-stream-requires
     same-length
     returns

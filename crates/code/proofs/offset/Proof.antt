@@ -34,7 +34,7 @@ returns-3 : tie.Need-returns-3
 unfolding offsetIn
 returns-3 c =
     let b = c .before .before in
-    let a = b .before .before .before .before .args in
+    let a = b .before .before .before .before .before .args in
     let e = sym (b .if1 .left) ∙ b .before .is-program .ensures in
     let z : 0 ≡ a .y .address - a .s .address = omega arith in
     rw (← b .before .before .kind-of .ensures, ← e) z

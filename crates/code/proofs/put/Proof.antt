@@ -15,17 +15,17 @@ use Rattle.code.proofs.put.Statement.{statement}
 use Rattle.code.proofs.put.Tie as tie
 
 abbrev Inv-loop : tie.InvT-loop
-Inv-loop d gap h order n out₀ at o₀ k₀ out o k =
-    (k ≤ n) × (length out ≡ length out₀) × (o ≡ at + length (each (codeAt d gap h) (take k order)))
-    × (out ≡ take at out₀ ++ (each (codeAt d gap h) (take k order) ++ drop o out₀))
+Inv-loop d t v order n out₀ at o₀ k₀ out o k =
+    (k ≤ n) × (length out ≡ length out₀) × (o ≡ at + length (each (codeAt d t v) (take k order)))
+    × (out ≡ take at out₀ ++ (each (codeAt d t v) (take k order) ++ drop o out₀))
 
 abbrev μ-loop : tie.MeasureT-loop
-μ-loop d gap h order n out₀ at o₀ k₀ out o k = n - k
+μ-loop d t v order n out₀ at o₀ k₀ out o k = n - k
 
 loop-holds : tie.Need-loop-holds Inv-loop μ-loop
 unfolding each
 loop-holds c =
-    let a = c .before .before .before .args in
+    let a = c .before .before .before .before .args in
     (omega arith, refl, sym (add-zero (a .at)), put-none (a .at) (now (a .out)))
 
 mul-put-code : tie.Need-mul-put-code Inv-loop μ-loop
@@ -37,13 +37,11 @@ shared-slice-read-put-code c = search needs
 put-code-requires : tie.Need-put-code-requires Inv-loop μ-loop
 put-code-requires c κs =
     let l = c .before .before .before in
-    let b = l .before .before .before .before in
+    let b = l .before .before .before .before .before in
     let a = b .args in (
-      omega arith,
-      b .pre .2,
-      b .pre .3,
-      b .pre .4 (l .loop .k) (omega arith),
-      next-room (codeAt (now (a .d)) (a .gap) (a .h)) (now (a .order)) (a .at) (l .loop .k) (l .loop .o) (l .loop .inv .2) (a .n) (length (l .loop .out)) (omega arith) (omega arith) (omega arith),
+      b .pre .1,
+      b .pre .2 (l .loop .k) (omega arith),
+      next-room (codeAt (now (a .d)) (now (a .t)) (a .v)) (now (a .order)) (a .at) (l .loop .k) (l .loop .o) (l .loop .inv .2) (a .n) (length (l .loop .out)) (omega arith) (omega arith) (omega arith),
     )
 
 add-k : tie.Need-add-k Inv-loop μ-loop
@@ -55,9 +53,9 @@ loop-less c = search needs
 loop-again : tie.Need-loop-again Inv-loop μ-loop
 loop-again c =
     let l = c .before .before .before .before .before .before in
-    let b = l .before .before .before .before in
+    let b = l .before .before .before .before .before in
     let a = b .args in
-    let f = codeAt (now (a .d)) (a .gap) (a .h) in
+    let f = codeAt (now (a .d)) (now (a .t)) (a .v) in
     let p = c .before .before .put-code in
     let room = next-room f (now (a .order)) (a .at) (l .loop .k) (l .loop .o) (l .loop .inv .2) (a .n) (length (now (a .out))) (omega arith) (omega arith) (omega arith) in (
       omega arith,
@@ -73,7 +71,7 @@ same-length c = search needs
 returns : tie.Need-returns Inv-loop μ-loop
 returns c =
     let l = c .before in
-    let e : l .loop .k ≡ l .before .before .before .before .args .n = omega arith in
+    let e : l .loop .k ≡ l .before .before .before .before .before .args .n = omega arith in
     (l .loop .inv .2 ∙ rw e, l .loop .inv .3 ∙ rw e)
 
 pub put-spec : {M : Type 1} → statement M

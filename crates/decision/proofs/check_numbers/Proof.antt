@@ -12,20 +12,19 @@ use Rattle.decision.proofs.check_numbers.Tie as tie
 
 put-relocation-rows-requires : tie.Need-put-relocation-rows-requires
 put-relocation-rows-requires c κs =
-    let z = c .before .before .before .before .before .before .before .before .before .before .before .before .before .before in
+    let z = c .before .before .before .before .before .before .before .before .before .before .before .before .before .before .before in
     let a = z .args in
-    let r = z .pre .0 in
-    (r .gap-small, r .relocations-inside, targeted (now (a .d)) (a .gap) (a .h) (z .pre .1), r .few-sections, r .few-relocations, z .pre .4, z .pre .6)
+    (z .pre .0, targeted (now (a .d)) (now (a .t)) (a .v) (z .pre .1), z .pre .4, z .pre .6)
 
 check-room-requires : tie.Need-check-room-requires
 check-room-requires c κs =
-    let z = c .before .before .before .before .before .before .before .before .before .before .before .before .before .before .before .before .before .before .before .before .before .before .before .before in
+    let z = c .before .before .before .before .before .before .before .before .before .before .before .before .before .before .before .before .before .before .before .before .before .before .before .before .before in
     let a = z .args in
     let k = c .before .before .before .before .before .before .before .before .before .put-relocation-rows in (
       z .pre .0,
       z .pre .1,
       z .pre .2,
-      k .ensures .0 ∙ ap length (relocations-are (now (a .d)) (a .gap) (a .h) (z .pre .0) (z .pre .1)),
+      k .ensures .0 ∙ ap length (relocations-are (now (a .d)) (now (a .t)) (a .v) (z .pre .0) (z .pre .1)),
       omega (arith, k .kept .1 .1 .1 .0, z .pre .3),
       omega (arith, k .kept .1 .1 .1 .1 .0, z .pre .5),
       z .pre .7,
@@ -45,12 +44,12 @@ same-length-4 c = search needs
 
 returns : tie.Need-returns
 returns c =
-    let z = c .before .before .before .before .before .before .before .before .before .before .before .before .before .before .before .before .before .before .before .before .before .before .before .before .before .before .before .before .before .before .before in
+    let z = c .before .before .before .before .before .before .before .before .before .before .before .before .before .before .before .before .before .before .before .before .before .before .before .before .before .before .before .before .before .before .before .before in
     let a = z .args in
     let k = c .before .before .before .before .before .before .before .before .before .before .before .before .before .before .before .before .put-relocation-rows in
     let e = c .before .before .before .before .before .before .check-room .ensures in (
       e,
-      relocated (now (a .d)) (a .gap) (a .h) (now (a .entries)) (now (a .patches)) (a .room) _ _ _ _ _ _ _ (now (a .relocations)) _ (k .result) (z .pre .0) e (z .pre .8) (k .ensures .0) (k .ensures .2),
+      relocated (now (a .d)) (now (a .t)) (a .v) (now (a .entries)) (now (a .patches)) (a .room) _ _ _ _ _ _ _ (now (a .relocations)) _ (k .result) (z .pre .0) e (z .pre .8) (k .ensures .0) (k .ensures .2),
     )
 
 pub check-numbers-spec : {M : Type 1} → statement M

@@ -14,9 +14,9 @@ use Rattle.decision.proofs.check_patches.Tie as tie
 
 returns : tie.Need-returns
 returns c =
-    let a = c .before .before .before .before .before .before .before .before .args in
+    let a = c .before .before .before .before .before .before .before .before .before .args in
     let e : length (now (a .entries)) ≡ 0 = omega (arith, c .if1 .taken) in (
-      sym (ap checkedOf (no-entries (objectIn (now (a .d)) (a .gap) (a .h)) (catalogue (now (a .d)) (a .gap) (a .h) .maps) (now (a .entries)) (now (a .patches)) e)),
+      sym (ap checkedOf (no-entries (objectIn (now (a .d)) (now (a .t)) (a .v)) (catalogue (now (a .d)) (now (a .t)) (a .v) .maps) (now (a .entries)) (now (a .patches)) e)),
       record { named = λ p. absurd (omega (arith, e, p)); sited = λ p. absurd (omega (arith, e, p)) },
     )
 
@@ -25,15 +25,15 @@ by-name-requires c κs = search needs
 
 maps-by-section-requires : tie.Need-maps-by-section-requires
 maps-by-section-requires c κs =
-    let z = c .before .before .before .before .before .before .before .before .before .before .before .before .before .before .before .before in
+    let z = c .before .before .before .before .before .before .before .before .before .before .before .before .before .before .before .before .before in
     let a = z .args in
-    (z .pre .0 .gap-small, z .pre .0 .rise, z .pre .2, omega (arith, z .pre .3), z .pre .7, all-maps (now (a .d)) (a .gap) (a .h) (a .n) (now (a .maps)) (z .pre .2) (now (a .by)) (z .pre .0) (z .pre .1) (z .pre .4))
+    (z .pre .0, z .pre .2, omega (arith, z .pre .3), z .pre .7, all-maps (now (a .d)) (now (a .t)) (a .v) (a .n) (now (a .maps)) (z .pre .2) (now (a .by)) (z .pre .0) (z .pre .1) (z .pre .4))
 
 patch-refusal-requires : tie.Need-patch-refusal-requires
 patch-refusal-requires c κs =
-    let z = c .before .before .before .before .before .before .before .before .before .before .before .before .before .before .before .before .before .before .before .before .before in
+    let z = c .before .before .before .before .before .before .before .before .before .before .before .before .before .before .before .before .before .before .before .before .before .before in
     let a = z .args in
-    (sited (now (a .d)) (a .gap) (a .h) (now (a .maps)) (a .n) _ _ (now (a .by)) (z .pre .0) (z .pre .1) (z .pre .2) (z .pre .4) (c .before .before .before .before .maps-by-section .ensures), c .before .before .before .before .before .before .before .before .before .before .by-name .ensures)
+    (sited (now (a .d)) (now (a .t)) (a .v) (now (a .maps)) (a .n) _ _ (z .pre .0) (z .pre .1) (z .pre .2) (z .pre .4) (c .before .before .before .before .maps-by-section .ensures), c .before .before .before .before .before .before .before .before .before .before .by-name .ensures)
 
 same-length : tie.Need-same-length
 same-length c = search needs
@@ -46,11 +46,11 @@ same-length-3 c = search needs
 
 returns-2 : tie.Need-returns-2
 returns-2 c =
-    let z = c .before .before .before .before .before .before .before .before .before .before .before .before .before .before .before .before .before .before .before .before .before .before in
+    let z = c .before .before .before .before .before .before .before .before .before .before .before .before .before .before .before .before .before .before .before .before .before .before .before in
     let a = z .args in (
       c .patch-refusal .ensures
-          ∙ rw (maps-are (now (a .d)) (a .gap) (a .h) (a .n) (now (a .maps)) (z .pre .2) (z .pre .0) (z .pre .1) (z .pre .4)),
-      record { named = λ p. c .before .before .before .before .before .before .before .before .before .before .before .by-name .ensures; sited = λ p. sited (now (a .d)) (a .gap) (a .h) (now (a .maps)) (a .n) _ _ (now (a .by)) (z .pre .0) (z .pre .1) (z .pre .2) (z .pre .4) (c .before .before .before .before .before .maps-by-section .ensures) },
+          ∙ rw (maps-are (now (a .d)) (now (a .t)) (a .v) (a .n) (now (a .maps)) (z .pre .2) (z .pre .0) (z .pre .1) (z .pre .4)),
+      record { named = λ p. c .before .before .before .before .before .before .before .before .before .before .before .by-name .ensures; sited = λ p. sited (now (a .d)) (now (a .t)) (a .v) (now (a .maps)) (a .n) _ _ (z .pre .0) (z .pre .1) (z .pre .2) (z .pre .4) (c .before .before .before .before .before .maps-by-section .ensures) },
     )
 
 pub check-patches-spec : {M : Type 1} → statement M

@@ -38,7 +38,7 @@ part-check-patches-end-2 c = search needs
 
 check-patches-requires : tie.Need-check-patches-requires
 check-patches-requires c κs =
-    let z = c .before .before .before .before .before .before .before .before .before .before .before .before .before .before in
+    let z = c .before .before .before .before .before .before .before .before .before .before .before .before .before .before .before in
     let a = z .args in
     let t = z .pre .2 in
     let y = c .before .before .before .size .ensures .0 in
@@ -58,9 +58,9 @@ same-length-3 c = search needs
 
 returns : tie.Need-returns
 returns c =
-    let z = c .before .before .before .before .before .before .before .before .before .before .before .before .before .before .before .before .before .before .before .before .before .before .before .before in
+    let z = c .before .before .before .before .before .before .before .before .before .before .before .before .before .before .before .before .before .before .before .before .before .before .before .before .before in
     let a = z .args in
-    back-patches (roomOf (a .room)) (objectIn (now (a .d)) (a .gap) (a .h)) (patchesOf (now (a .entries)) (now (a .patches))) (c .before .checked .given .0 .0) (z .pre .1)
+    back-patches (roomOf (a .room)) (objectIn (now (a .d)) (now (a .t)) (a .v)) (patchesOf (now (a .entries)) (now (a .patches))) (c .before .checked .given .0 .0) (z .pre .1)
     (checked-refused _ _ (sym (c .before .before .before .before .before .before .before .before .before .check-patches .ensures .0) ∙ c .before .checked .given .1))
 
 enum-told : tie.Need-enum-told
@@ -86,7 +86,7 @@ same-length-6 c = search needs
 
 returns-2 : tie.Need-returns-2
 returns-2 c =
-    let z = c .before .before .before .before .before .before .before .before .before .before .before .before .before .before .before .before .before .before .before .before .before .before .before .before .before .before .before in
+    let z = c .before .before .before .before .before .before .before .before .before .before .before .before .before .before .before .before .before .before .before .before .before .before .before .before .before .before .before .before in
     let a = z .args in
     let k = c .before .before .before .before .before .before .before .before .before .before .before .before .check-patches in
     let t = z .pre .2 in
@@ -95,14 +95,14 @@ returns-2 c =
     let l = c .before .before .before .layout .ensures in
     let d = now (a .d) in
     let w =
-    fits-by (a .room) (a .n) (a .relocations) (c .before .before .before .layout .result .end) (catalogue d (a .gap) (a .h)) (count-sections d (a .gap) (a .h) (a .n .sections) (now (a .sections)) (t .sections-in) (t .sections))
-    (count-programs d (a .gap) (a .h) (a .n .programs) (now (a .programs)) (t .programs-in) (z .pre .0) (z .pre .1) (t .programs))
-    (count-functions d (a .gap) (a .h) (a .n .functions) (now (a .functions)) (t .functions-in) (z .pre .0) (z .pre .1) (t .functions))
-    (count-maps d (a .gap) (a .h) (a .n .maps) (now (a .maps)) (t .maps-in) (z .pre .0) (z .pre .1) (t .maps)) (sym (z .pre .3)) (sym (l .end))
+    fits-by (a .room) (a .n) (a .relocations) (c .before .before .before .layout .result .end) (catalogue d (now (a .t)) (a .v)) (count-sections d (now (a .t)) (a .v) (a .n .sections) (now (a .sections)) (t .sections-in) (t .sections))
+    (count-programs d (now (a .t)) (a .v) (a .n .programs) (now (a .programs)) (t .programs-in) (z .pre .0) (z .pre .1) (t .programs))
+    (count-functions d (now (a .t)) (a .v) (a .n .functions) (now (a .functions)) (t .functions-in) (z .pre .0) (z .pre .1) (t .functions))
+    (count-maps d (now (a .t)) (a .v) (a .n .maps) (now (a .maps)) (t .maps-in) (z .pre .0) (z .pre .1) (t .maps)) (sym (z .pre .3)) (sym (l .end))
     in
     let f = c .before .before .fits2 in
     let e = w ∙ sym (f .ensures) ∙ not-true (f .result) (c .before .if1 .taken) in
-    rw (c .too-small .ensures) (back-small (roomOf (a .room)) (objectIn d (a .gap) (a .h)) (patchesOf (now (a .entries)) (now (a .patches))) (z .pre .1) fine e)
+    rw (c .too-small .ensures) (back-small (roomOf (a .room)) (objectIn d (now (a .t)) (a .v)) (patchesOf (now (a .entries)) (now (a .patches))) (z .pre .1) fine e)
 
 same-length-7 : tie.Need-same-length-7
 same-length-7 c = search needs
@@ -115,7 +115,7 @@ same-length-9 c = search needs
 
 returns-3 : tie.Need-returns-3
 returns-3 c =
-    let z = c .before .before .before .before .before .before .before .before .before .before .before .before .before .before .before .before .before .before .before .before .before .before .before .before .before .before in
+    let z = c .before .before .before .before .before .before .before .before .before .before .before .before .before .before .before .before .before .before .before .before .before .before .before .before .before .before .before in
     let a = z .args in
     let k = c .before .before .before .before .before .before .before .before .before .before .before .check-patches in
     let t = z .pre .2 in
@@ -124,10 +124,10 @@ returns-3 c =
     let l = c .before .before .layout .ensures in
     let d = now (a .d) in
     let w =
-    fits-by (a .room) (a .n) (a .relocations) (c .before .before .layout .result .end) (catalogue d (a .gap) (a .h)) (count-sections d (a .gap) (a .h) (a .n .sections) (now (a .sections)) (t .sections-in) (t .sections))
-    (count-programs d (a .gap) (a .h) (a .n .programs) (now (a .programs)) (t .programs-in) (z .pre .0) (z .pre .1) (t .programs))
-    (count-functions d (a .gap) (a .h) (a .n .functions) (now (a .functions)) (t .functions-in) (z .pre .0) (z .pre .1) (t .functions))
-    (count-maps d (a .gap) (a .h) (a .n .maps) (now (a .maps)) (t .maps-in) (z .pre .0) (z .pre .1) (t .maps)) (sym (z .pre .3)) (sym (l .end))
+    fits-by (a .room) (a .n) (a .relocations) (c .before .before .layout .result .end) (catalogue d (now (a .t)) (a .v)) (count-sections d (now (a .t)) (a .v) (a .n .sections) (now (a .sections)) (t .sections-in) (t .sections))
+    (count-programs d (now (a .t)) (a .v) (a .n .programs) (now (a .programs)) (t .programs-in) (z .pre .0) (z .pre .1) (t .programs))
+    (count-functions d (now (a .t)) (a .v) (a .n .functions) (now (a .functions)) (t .functions-in) (z .pre .0) (z .pre .1) (t .functions))
+    (count-maps d (now (a .t)) (a .v) (a .n .maps) (now (a .maps)) (t .maps-in) (z .pre .0) (z .pre .1) (t .maps)) (sym (z .pre .3)) (sym (l .end))
     in
     let f = c .before .fits2 in
     let e = w ∙ sym (f .ensures) ∙ not-false (f .result) (c .if1 .left) in
@@ -139,7 +139,7 @@ returns-3 c =
       held = t;
       count = z .pre .3;
       at = l;
-      ready = ready-part d (a .gap) (a .h) (now (a .entries)) (now (a .maps)) (a .n .maps) (k .last .1 .1 .1 .1 .1 .1 .1 .0) _ _ (k .kept .1 .1 .1 .1 .1 .1 .1 .0 ∙ lent-length (now (a .order)) _ _ y (z .pre .4)) (k .ensures .1);
+      ready = ready-part d (now (a .t)) (a .v) (now (a .entries)) (now (a .maps)) (a .n .maps) (k .last .1 .1 .1 .1 .1 .1 .1 .0) _ _ (k .kept .1 .1 .1 .1 .1 .1 .1 .0 ∙ lent-length (now (a .order)) _ _ y (z .pre .4)) (k .ensures .1);
     }
 
 pub check-room-spec : {M : Type 1} → statement M

@@ -5,7 +5,6 @@ use native.Mathlib.Omega.{arith}
 use denote.Ref.{now}
 use Rattle.model.specs.PatchList.{patchesOf}
 use Rattle.view.specs.View.{objectIn}
-use Rattle.bytes.specs.Parts.{rises}
 use Rattle.decision.specs.Decided.{held-by, numbers-refused, numbers-fine}
 use Rattle.decision.specs.Outcomes.{back-object}
 use Rattle.decision.specs.Room.{roomOf}
@@ -15,11 +14,11 @@ use Rattle.decision.proofs.decide.Tie as tie
 
 parse-requires : tie.Need-parse-requires
 parse-requires c κs =
-    let z = c .before .before .before .before .before .before .before .before .before .before .before .before .before .before .before .before .before in
+    let z = c .before .before .before .before .before .before .before .before .before .before .before .before .before .before .before .before .before .before in
     let a = z .args in
     let r = z .pre .0 in
     let w = z .pre .1 in
-    (r .gap-small, r .few-sections, r .few-symbols, w .sections, w .programs, w .untargeted, w .functions, w .maps, w .sorting, w .symbols, rises (now (a .d)) (a .gap) (a .h) r, r .relocations-inside)
+    (w .sections, w .programs, w .untargeted, w .functions, w .maps, w .sorting, w .symbols, r)
 
 enum-known-r : tie.Need-enum-known-r
 enum-known-r c = search needs
@@ -29,18 +28,18 @@ enum-known-n c = search needs
 
 check-numbers-requires : tie.Need-check-numbers-requires
 check-numbers-requires c κs =
-    let z = c .before .before .before .before .before .before .before .before .before .before .before .before .before .before .before .before .before .before .before .before .before .before .before .before .before .before .before .before .before .before .before .before .before .before .before .before .before .before .before .before .before in
+    let z = c .before .before .before .before .before .before .before .before .before .before .before .before .before .before .before .before .before .before .before .before .before .before .before .before .before .before .before .before .before .before .before .before .before .before .before .before .before .before .before .before .before .before in
     let a = z .args in
     let w = z .pre .1 in
     let k = c .before .before .before .before .before .before .before .before .before .before .before .before .before .before .before .before .before .before .before .before .before .before .before .parse in
     let n = c .before .before .before .before .before .before .before .before .before .n .given in
     let kept = k .kept .1 .1 .1 in
     let e = rw (n .1) at (k .ensures) in
-    let f = numbers-fine (now (a .d)) (a .gap) (a .h) _ _ _ _ (n .0 .0) e in (
+    let f = numbers-fine (now (a .d)) (now (a .t)) (a .v) _ _ _ _ (n .0 .0) e in (
       z .pre .0,
       f .0,
       rw (f .1)
-          (held-by (now (a .d)) (a .gap) (a .h) _ _ _ _ (e .numbers (f .0)) (omega (arith, kept .0, w .most-sections)) (omega (arith, kept .1 .0, w .most-programs)) (omega (arith, kept .1 .1 .0, w .most-functions)) (omega (arith, kept .1 .1 .1 .0, w .most-maps))),
+          (held-by (now (a .d)) (now (a .t)) (a .v) _ _ _ _ (e .numbers (f .0)) (omega (arith, kept .0, w .most-sections)) (omega (arith, kept .1 .0, w .most-programs)) (omega (arith, kept .1 .1 .0, w .most-functions)) (omega (arith, kept .1 .1 .1 .0, w .most-maps))),
       omega (arith, kept .1 .1 .1 .1 .1 .0, w .symbols),
       omega (arith, kept .1 .1 .1 .1 .1 .0, w .relocations),
       omega (arith, kept .1 .1 .1 .1 .0, w .sorting),
@@ -69,12 +68,12 @@ same-length-6 c = search needs
 
 returns : tie.Need-returns
 returns c =
-    let z = c .before .before .before .before .before .before .before .before .before .before .before .before .before .before .before .before .before .before .before .before .before .before .before .before .before .before .before .before .before .before .before .before .before in
+    let z = c .before .before .before .before .before .before .before .before .before .before .before .before .before .before .before .before .before .before .before .before .before .before .before .before .before .before .before .before .before .before .before .before .before .before in
     let a = z .args in
     let q = c .before .r .given in
     let e = rw (q .1) at (c .before .before .before .before .before .before .before .before .before .before .before .before .before .before .before .parse .ensures) in (
-      back-object (roomOf (a .room)) (objectIn (now (a .d)) (a .gap) (a .h)) (patchesOf (now (a .entries)) (now (a .patches))) (q .0 .0)
-          (numbers-refused (now (a .d)) (a .gap) (a .h) _ _ _ _ (q .0 .0) e),
+      back-object (roomOf (a .room)) (objectIn (now (a .d)) (now (a .t)) (a .v)) (patchesOf (now (a .entries)) (now (a .patches))) (q .0 .0)
+          (numbers-refused (now (a .d)) (now (a .t)) (a .v) _ _ _ _ (q .0 .0) e),
       λ plan k. (let z : _≡_ {A = ℕ} 0 1 = cc in absurd (omega arith)),
     )
 

@@ -7,6 +7,7 @@ use denote.Ref.{now}
 use Rattle.model.specs.Lent.{bytesOf}
 use Rattle.model.specs.Patching.{finish}
 use Rattle.model.specs.PatchList.{patchesOf}
+use Rattle.records.specs.View.{gapOf}
 use Rattle.stream.specs.Stream.{place, byteAt}
 use Rattle.view.specs.View.{objectIn}
 use Rattle.bytes.specs.Held.{inside, all-fit}
@@ -23,22 +24,22 @@ put-requires c κs = search needs
 patch-bytes-requires : tie.Need-patch-bytes-requires
 unfolding byteAt
 patch-bytes-requires c κs =
-    let z = c .before .before .before .before .before .before .before .before .before .before .before .before .before .before .before .before in
+    let z = c .before .before .before .before .before .before .before .before .before .before .before .before .before .before .before .before .before in
     let a = z .args in
     let d = now (a .d) in
-    let k = catalogue d (a .gap) (a .h) in
+    let k = catalogue d (now (a .t)) (a .v) in
     let q = z .pre .4 in
     let t = z .pre .3 in
-    let o = objectIn d (a .gap) (a .h) in
+    let o = objectIn d (now (a .t)) (a .v) in
     let ps = patchesOf (now (a .entries)) (now (a .patches)) in
-    let small : (i : ℕ) → byteAt d (a .gap) i < 256 = λ i. omega (arith, c .before .before .before .before .before .before .before .before .before .before .before .before .before .before .before .shared-slice-known .given (place (a .gap) i)) in
+    let small : (i : ℕ) → byteAt d (gapOf (a .v)) i < 256 = λ i. omega (arith, c .before .before .before .before .before .before .before .before .before .before .before .before .before .before .before .before .shared-slice-known .given (place (gapOf (a .v)) i)) in
     let enc =
-    functions-encoded d (a .gap) (a .h) (z .pre .0) (z .pre .1) small (a .n .functions) (now (a .functions)) (t .functions)
-    (all-fit d (a .gap) (a .h) (z .pre .0) (z .pre .1) (a .n) (now (a .sections)) (now (a .programs)) (now (a .functions)) (now (a .maps)) t)
+    functions-encoded d (now (a .t)) (a .v) (z .pre .0) (z .pre .1) small (a .n .functions) (now (a .functions)) (t .functions)
+    (all-fit d (now (a .t)) (a .v) (z .pre .0) (z .pre .1) (a .n) (now (a .sections)) (now (a .programs)) (now (a .functions)) (now (a .maps)) t)
     in
     let laid = rw (← q .end) at (c .before .before .before .put .ensures) in
     let w = inside k in (
-      patch-ready d (a .gap) (a .h) (z .pre .0) (z .pre .1) (now (a .entries)) (now (a .maps)) (now (a .order)) (now (a .by)) (now (a .rows)) (a .n .maps) (a .places .own) (t .maps) (t .maps-in) (q .own) (z .pre .6) (z .pre .5),
+      patch-ready d (now (a .t)) (a .v) (z .pre .0) (z .pre .1) (now (a .entries)) (now (a .maps)) (now (a .order)) (now (a .by)) (now (a .rows)) (a .n .maps) (a .places .own) (t .maps) (t .maps-in) (q .own) (z .pre .6) (z .pre .5),
       z .pre .2,
       omega (arith, q .own, q .end, w .own),
       omega (arith, c .before .before .before .put .kept .1 .1 .1 .1 .1 .1 .1 .1 .0, q .end, z .pre .7),
@@ -47,15 +48,15 @@ patch-bytes-requires c κs =
 
 rewrite-code-requires : tie.Need-rewrite-code-requires
 rewrite-code-requires c κs =
-    let z = c .before .before .before .before .before .before .before .before .before .before .before .before .before .before .before .before .before .before .before .before in
+    let z = c .before .before .before .before .before .before .before .before .before .before .before .before .before .before .before .before .before .before .before .before .before in
     let a = z .args in
     let q = z .pre .4 in
-    let w = inside (catalogue (now (a .d)) (a .gap) (a .h)) in
-    (omega (arith, q .code, q .maps, code-before (catalogue (now (a .d)) (a .gap) (a .h))), omega (arith, q .maps, w .maps, c .before .before .before .patch-bytes .kept .1 .1 .1 .1 .1 .1 .1 .1 .1 .1 .0, c .before .before .before .before .before .before .before .put .kept .1 .1 .1 .1 .1 .1 .1 .1 .0, z .pre .7))
+    let w = inside (catalogue (now (a .d)) (now (a .t)) (a .v)) in
+    (omega (arith, q .code, q .maps, code-before (catalogue (now (a .d)) (now (a .t)) (a .v))), omega (arith, q .maps, w .maps, c .before .before .before .patch-bytes .kept .1 .1 .1 .1 .1 .1 .1 .1 .1 .1 .0, c .before .before .before .before .before .before .before .put .kept .1 .1 .1 .1 .1 .1 .1 .1 .0, z .pre .7))
 
 clear-bytes-from-requires : tie.Need-clear-bytes-from-requires
 clear-bytes-from-requires c κs =
-    let z = c .before .before .before .before .before .before .before .before .before .before .before .before .before .before .before .before .before .before .before .before .before .before .before .before in
+    let z = c .before .before .before .before .before .before .before .before .before .before .before .before .before .before .before .before .before .before .before .before .before .before .before .before .before in
     omega (arith, z .pre .4 .end, z .pre .7, c .before .before .before .rewrite-code .kept .1 .1 .1 .0, c .before .before .before .before .before .before .before .patch-bytes .kept .1 .1 .1 .1 .1 .1 .1 .1 .1 .1 .0, c .before .before .before .before .before .before .before .before .before .before .before .put .kept .1 .1 .1 .1 .1 .1 .1 .1 .0)
 
 same-length : tie.Need-same-length
@@ -64,18 +65,18 @@ same-length c = search needs
 returns : tie.Need-returns
 unfolding byteAt
 returns c =
-    let z = c .before .before .before .before .before .before .before .before .before .before .before .before .before .before .before .before .before .before .before .before .before .before .before .before .before .before .before in
+    let z = c .before .before .before .before .before .before .before .before .before .before .before .before .before .before .before .before .before .before .before .before .before .before .before .before .before .before .before .before in
     let a = z .args in
     let d = now (a .d) in
-    let k = catalogue d (a .gap) (a .h) in
+    let k = catalogue d (now (a .t)) (a .v) in
     let q = z .pre .4 in
     let t = z .pre .3 in
-    let o = objectIn d (a .gap) (a .h) in
+    let o = objectIn d (now (a .t)) (a .v) in
     let ps = patchesOf (now (a .entries)) (now (a .patches)) in
-    let small : (i : ℕ) → byteAt d (a .gap) i < 256 = λ i. omega (arith, c .before .before .before .before .before .before .before .before .before .before .before .before .before .before .before .before .before .before .before .before .before .before .before .before .before .before .shared-slice-known .given (place (a .gap) i)) in
+    let small : (i : ℕ) → byteAt d (gapOf (a .v)) i < 256 = λ i. omega (arith, c .before .before .before .before .before .before .before .before .before .before .before .before .before .before .before .before .before .before .before .before .before .before .before .before .before .before .before .shared-slice-known .given (place (gapOf (a .v)) i)) in
     let enc =
-    functions-encoded d (a .gap) (a .h) (z .pre .0) (z .pre .1) small (a .n .functions) (now (a .functions)) (t .functions)
-    (all-fit d (a .gap) (a .h) (z .pre .0) (z .pre .1) (a .n) (now (a .sections)) (now (a .programs)) (now (a .functions)) (now (a .maps)) t)
+    functions-encoded d (now (a .t)) (a .v) (z .pre .0) (z .pre .1) small (a .n .functions) (now (a .functions)) (t .functions)
+    (all-fit d (now (a .t)) (a .v) (z .pre .0) (z .pre .1) (a .n) (now (a .sections)) (now (a .programs)) (now (a .functions)) (now (a .maps)) t)
     in
     let laid = rw (← q .end) at (c .before .before .before .before .before .before .before .before .before .before .before .before .before .before .put .ensures) in
     let e =

@@ -12,11 +12,11 @@ use Rattle.first_checks.proofs.check_license.Tie as tie
 
 -- number 4 of the section
 four : (c : tie.After-untargeted)
-    → (let a = c .before .before .before .args in c .untargeted .result ≡ untargeted (sectionFrom (now (a .d)) (a .gap) (a .h) (a .s) .relocs))
+    → (let a = c .before .before .before .before .args in c .untargeted .result ≡ untargeted (sectionFrom (now (a .d)) (now (a .t)) (a .v) (a .s) .relocs))
 four c =
-    let z = c .before .before .before in
+    let z = c .before .before .before .before in
     let a = z .args in
-    c .untargeted .ensures ∙ reaches-untargeted (now (a .d)) (a .gap) (a .h) (now (a .next)) (a .s) (z .pre .1) (z .pre .2)
+    c .untargeted .ensures ∙ reaches-untargeted (now (a .d)) (now (a .t)) (a .v) (now (a .next)) (a .s) (z .pre .0) (z .pre .1)
 
 untargeted-requires : tie.Need-untargeted-requires
 untargeted-requires c κs = search needs
@@ -27,8 +27,8 @@ of-section-requires c κs = search needs
 returns : tie.Need-returns
 returns c =
     let u = c .before .before in
-    let a = u .before .before .before .args in
-    c .of-section .ensures ∙ ap checkedOf (sym (licence-four (now (a .d)) (a .gap) (a .h) (a .s) (sym (four u) ∙ c .before .if1 .taken)))
+    let a = u .before .before .before .before .args in
+    c .of-section .ensures ∙ ap checkedOf (sym (licence-four (now (a .d)) (now (a .t)) (a .v) (a .s) (sym (four u) ∙ c .before .if1 .taken)))
 
 parsed-license-requires : tie.Need-parsed-license-requires
 parsed-license-requires c κs = search needs
@@ -52,25 +52,25 @@ returns-2 : tie.Need-returns-2
 returns-2 c =
     let t = c in
     let i = t .before .before .before in
-    let a = i .before .before .before .before .args in
+    let a = i .before .before .before .before .before .args in
     let p = sym (t .before .before .parsed-license .ensures) ∙ t .enum-told .given .1 in
-    ap checkedOf (sym (licence-parsed (now (a .d)) (a .gap) (a .h) (a .s) (sym (four (i .before)) ∙ i .if1 .left) _ p))
+    ap checkedOf (sym (licence-parsed (now (a .d)) (now (a .t)) (a .v) (a .s) (sym (four (i .before)) ∙ i .if1 .left) _ p))
 
 returns-3 : tie.Need-returns-3
 returns-3 c =
     let t = c .before in
     let i = t .before .before .before in
-    let a = i .before .before .before .before .args in
+    let a = i .before .before .before .before .before .args in
     let p = sym (t .before .before .parsed-license .ensures) ∙ t .enum-told2 .given .1 in
-    c .of-section2 .ensures ∙ ap checkedOf (sym (licence-parsed (now (a .d)) (a .gap) (a .h) (a .s) (sym (four (i .before)) ∙ i .if1 .left) _ p))
+    c .of-section2 .ensures ∙ ap checkedOf (sym (licence-parsed (now (a .d)) (now (a .t)) (a .v) (a .s) (sym (four (i .before)) ∙ i .if1 .left) _ p))
 
 returns-4 : tie.Need-returns-4
 returns-4 c =
     let t = c .before in
     let i = t .before .before .before in
-    let a = i .before .before .before .before .args in
+    let a = i .before .before .before .before .before .args in
     let p = sym (t .before .before .parsed-license .ensures) ∙ t .enum-told3 .given .1 in
-    c .of-section3 .ensures ∙ ap checkedOf (sym (licence-parsed (now (a .d)) (a .gap) (a .h) (a .s) (sym (four (i .before)) ∙ i .if1 .left) _ p))
+    c .of-section3 .ensures ∙ ap checkedOf (sym (licence-parsed (now (a .d)) (now (a .t)) (a .v) (a .s) (sym (four (i .before)) ∙ i .if1 .left) _ p))
 
 pub check-license-spec : {M : Type 1} → statement M
 check-license-spec =

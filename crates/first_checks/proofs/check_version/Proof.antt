@@ -2,7 +2,6 @@
 use mathlib.Core.Path.{_≡_, sym, ap, _∙_}
 use denote.Ref.{now}
 use Rattle.model.specs.Refusals.{untargeted}
-use Rattle.model.specs.Deposit.{byteOrder}
 use Rattle.view.specs.Checked.{checkedOf}
 use Rattle.view.specs.View.{sectionFrom}
 use Rattle.first_checks.specs.Targets.{reaches-untargeted}
@@ -13,11 +12,11 @@ use Rattle.first_checks.proofs.check_version.Tie as tie
 
 -- number 4 of the section
 four : (c : tie.After-untargeted)
-    → (let a = c .before .before .before .args in c .untargeted .result ≡ untargeted (sectionFrom (now (a .d)) (a .gap) (a .h) (a .s) .relocs))
+    → (let a = c .before .before .before .before .args in c .untargeted .result ≡ untargeted (sectionFrom (now (a .d)) (now (a .t)) (a .v) (a .s) .relocs))
 four c =
-    let z = c .before .before .before in
+    let z = c .before .before .before .before in
     let a = z .args in
-    c .untargeted .ensures ∙ reaches-untargeted (now (a .d)) (a .gap) (a .h) (now (a .next)) (a .s) (z .pre .1) (z .pre .2)
+    c .untargeted .ensures ∙ reaches-untargeted (now (a .d)) (now (a .t)) (a .v) (now (a .next)) (a .s) (z .pre .0) (z .pre .1)
 
 untargeted-requires : tie.Need-untargeted-requires
 untargeted-requires c κs = search needs
@@ -28,8 +27,8 @@ of-section-requires c κs = search needs
 returns : tie.Need-returns
 returns c =
     let u = c .before .before in
-    let a = u .before .before .before .args in
-    c .of-section .ensures ∙ ap checkedOf (sym (version-four (now (a .d)) (a .gap) (a .h) (a .s) (sym (four u) ∙ c .before .if1 .taken) (byteOrder (a .h .order))))
+    let a = u .before .before .before .before .args in
+    c .of-section .ensures ∙ ap checkedOf (sym (version-four (now (a .d)) (now (a .t)) (a .v) (a .s) (sym (four u) ∙ c .before .if1 .taken) (a .v .order)))
 
 parsed-version-requires : tie.Need-parsed-version-requires
 parsed-version-requires c κs = search needs
@@ -47,17 +46,17 @@ returns-2 : tie.Need-returns-2
 returns-2 c =
     let t = c in
     let i = t .before .before .before in
-    let a = i .before .before .before .before .args in
+    let a = i .before .before .before .before .before .args in
     let p = sym (t .before .before .parsed-version .ensures) ∙ t .enum-told .given .1 in
-    ap checkedOf (sym (version-parsed (now (a .d)) (a .gap) (a .h) (a .s) (sym (four (i .before)) ∙ i .if1 .left) (byteOrder (a .h .order)) _ p))
+    ap checkedOf (sym (version-parsed (now (a .d)) (now (a .t)) (a .v) (a .s) (sym (four (i .before)) ∙ i .if1 .left) (a .v .order) _ p))
 
 returns-3 : tie.Need-returns-3
 returns-3 c =
     let t = c .before in
     let i = t .before .before .before in
-    let a = i .before .before .before .before .args in
+    let a = i .before .before .before .before .before .args in
     let p = sym (t .before .before .parsed-version .ensures) ∙ t .enum-told2 .given .1 in
-    c .of-section2 .ensures ∙ ap checkedOf (sym (version-parsed (now (a .d)) (a .gap) (a .h) (a .s) (sym (four (i .before)) ∙ i .if1 .left) (byteOrder (a .h .order)) _ p))
+    c .of-section2 .ensures ∙ ap checkedOf (sym (version-parsed (now (a .d)) (now (a .t)) (a .v) (a .s) (sym (four (i .before)) ∙ i .if1 .left) (a .v .order) _ p))
 
 pub check-version-spec : {M : Type 1} → statement M
 check-version-spec =

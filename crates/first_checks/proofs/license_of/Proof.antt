@@ -26,49 +26,43 @@ returns : tie.Need-returns
 unfolding licenseAt
 returns c =
     let n = c .before .before in
-    let a = n .before .before .before .args in
-    let o = found-nothing (numberNamed (now (a .d)) (a .gap) (a .h) (ascii "license")) (sym (n .first-named .ensures) ∙ c .enum-told .given .1) in
+    let a = n .before .before .before .before .args in
+    let o = found-nothing (numberNamed (now (a .d)) (now (a .t)) (a .v) (ascii "license")) (sym (n .first-named .ensures) ∙ c .enum-told .given .1) in
     rw o
 
 section-requires : tie.Need-section-requires
 section-requires c κs = search needs
 
-data-at-requires : tie.Need-data-at-requires
-data-at-requires c κs = search needs
+data-place-requires : tie.Need-data-place-requires
+data-place-requires c κs = search needs
 
 size-requires : tie.Need-size-requires
 size-requires c κs = search needs
 
-add-at : tie.Need-add-at
-add-at c = search needs
-
-size-requires-2 : tie.Need-size-requires-2
-size-requires-2 c κs = search needs
-
 returns-2 : tie.Need-returns-2
 unfolding licenseAt
 returns-2 c =
-    let s = c .before .before .before .before in
+    let s = c .before .before .before in
     let i = s .before .before in
     let n = i .before .before in
-    let a = n .before .before .before .args in
-    let o = found-at (numberNamed (now (a .d)) (a .gap) (a .h) (ascii "license")) (i .i .given .0 .0) (sym (n .first-named .ensures) ∙ i .i .given .1) in
+    let a = n .before .before .before .before .args in
+    let o = found-at (numberNamed (now (a .d)) (now (a .t)) (a .v) (ascii "license")) (i .i .given .0 .0) (sym (n .first-named .ensures) ∙ i .i .given .1) in
     let z : s .section .result .bytes .length - 1 ≡ 0 = omega arith in
-    rw (o, ← s .section .ensures, z, c .before .before .before .data-at .ensures .0, c .before .before .size .ensures .0)
+    rw (o, ← s .section .ensures, z, c .before .before .data-place .ensures .0)
 
-sub-t12 : tie.Need-sub-t12
-sub-t12 c = search needs
+sub-t13 : tie.Need-sub-t13
+sub-t13 c = search needs
 
 returns-3 : tie.Need-returns-3
 unfolding licenseAt
 returns-3 c =
-    let s = c .before .before .before .before in
+    let s = c .before .before .before in
     let i = s .before .before in
     let n = i .before .before in
-    let a = n .before .before .before .args in
-    let o = found-at (numberNamed (now (a .d)) (a .gap) (a .h) (ascii "license")) (i .i .given .0 .0) (sym (n .first-named .ensures) ∙ i .i .given .1) in
-    let z : s .section .result .bytes .length - 1 ≡ c .before .size2 .result - 1 = omega arith in
-    rw (o, ← s .section .ensures, z, c .before .before .before .data-at .ensures .0, c .before .before .size .ensures .0)
+    let a = n .before .before .before .before .args in
+    let o = found-at (numberNamed (now (a .d)) (now (a .t)) (a .v) (ascii "license")) (i .i .given .0 .0) (sym (n .first-named .ensures) ∙ i .i .given .1) in
+    let z : s .section .result .bytes .length - 1 ≡ c .before .size .result - 1 = omega arith in
+    rw (o, ← s .section .ensures, z, c .before .before .data-place .ensures .0)
 
 pub license-of-spec : {M : Type 1} → statement M
 license-of-spec =
@@ -80,10 +74,8 @@ license-of-spec =
     enum-told
     returns
     section-requires
-    data-at-requires
+    data-place-requires
     size-requires
-    add-at
-    size-requires-2
     returns-2
-    sub-t12
+    sub-t13
     returns-3)

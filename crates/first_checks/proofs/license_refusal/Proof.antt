@@ -24,9 +24,9 @@ enum-told c = search needs
 returns : tie.Need-returns
 returns c =
     let n = c .before .before in
-    let a = n .before .before .before .before .args in
-    let o = found-nothing (numberNamed (now (a .d)) (a .gap) (a .h) (ascii "license")) (sym (n .first-named .ensures) ∙ c .enum-told .given .1) in
-    rw (made-of-named (now (a .d)) (a .gap) (a .h) (ascii "license") none licenceRefusal, o)
+    let a = n .before .before .before .before .before .args in
+    let o = found-nothing (numberNamed (now (a .d)) (now (a .t)) (a .v) (ascii "license")) (sym (n .first-named .ensures) ∙ c .enum-told .given .1) in
+    rw (made-of-named (now (a .d)) (now (a .t)) (a .v) (ascii "license") none licenceRefusal, o)
 
 section-requires : tie.Need-section-requires
 section-requires c κs = search needs
@@ -35,19 +35,19 @@ check-license-requires : tie.Need-check-license-requires
 check-license-requires c κs =
     let i = c .before .before in
     let n = i .before .before in
-    let z = n .before .before .before .before in
+    let z = n .before .before .before .before .before in
     let a = z .args in
-    let o = found-at (numberNamed (now (a .d)) (a .gap) (a .h) (ascii "license")) (i .i .given .0 .0) (sym (n .first-named .ensures) ∙ i .i .given .1) in
-    let l = z .pre .2 (i .i .given .0 .0) (number-below (now (a .d)) (a .gap) (a .h) (ascii "license") (i .i .given .0 .0) o) in
-    (z .pre .0, z .pre .1, rw (c .section .ensures) l)
+    let o = found-at (numberNamed (now (a .d)) (now (a .t)) (a .v) (ascii "license")) (i .i .given .0 .0) (sym (n .first-named .ensures) ∙ i .i .given .1) in
+    let l = z .pre .1 .relocations-inside (i .i .given .0 .0) (number-below (now (a .d)) (now (a .t)) (a .v) (ascii "license") (i .i .given .0 .0) o) in
+    (z .pre .0, rw (c .section .ensures) l)
 
 returns-2 : tie.Need-returns-2
 returns-2 c =
     let i = c .before .before .before in
     let n = i .before .before in
-    let a = n .before .before .before .before .args in
-    let o = found-at (numberNamed (now (a .d)) (a .gap) (a .h) (ascii "license")) (i .i .given .0 .0) (sym (n .first-named .ensures) ∙ i .i .given .1) in
-    rw (made-of-named (now (a .d)) (a .gap) (a .h) (ascii "license") none licenceRefusal, o, c .check-license .ensures, c .before .section .ensures)
+    let a = n .before .before .before .before .before .args in
+    let o = found-at (numberNamed (now (a .d)) (now (a .t)) (a .v) (ascii "license")) (i .i .given .0 .0) (sym (n .first-named .ensures) ∙ i .i .given .1) in
+    rw (made-of-named (now (a .d)) (now (a .t)) (a .v) (ascii "license") none licenceRefusal, o, c .check-license .ensures, c .before .section .ensures)
 
 pub license-refusal-spec : {M : Type 1} → statement M
 license-refusal-spec =

@@ -4,17 +4,14 @@ use borrow.Author.Needs.{needs}
 use Rattle.first_checks.proofs.parsed_license.Statement.{statement}
 use Rattle.first_checks.proofs.parsed_license.Tie as tie
 
-data-at-requires : tie.Need-data-at-requires
-data-at-requires c κs = search needs
+data-place-requires : tie.Need-data-place-requires
+data-place-requires c κs = search needs
 
 size-requires : tie.Need-size-requires
 size-requires c κs = search needs
 
-add-at : tie.Need-add-at
-add-at c = search needs
-
-size-requires-2 : tie.Need-size-requires-2
-size-requires-2 c κs = search needs
+gap-requires : tie.Need-gap-requires
+gap-requires c κs = search needs
 
 parse-license-requires : tie.Need-parse-license-requires
 parse-license-requires c κs = search needs
@@ -27,9 +24,8 @@ pub parsed-license-spec : {M : Type 1} → statement M
 parsed-license-spec =
     tie.close
     (tie.spec
-    data-at-requires
+    data-place-requires
     size-requires
-    add-at
-    size-requires-2
+    gap-requires
     parse-license-requires
     returns)

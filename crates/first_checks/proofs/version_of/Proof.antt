@@ -6,7 +6,6 @@ use native.Mathlib.Omega.{arith}
 use Rattle.model.specs.declared.ParsedVersion.{ParsedVersion}
 use Rattle.model.specs.Bytes.{ascii}
 use Rattle.model.specs.LicenceVersion.{versionIn}
-use Rattle.model.specs.Deposit.{byteOrder}
 use Rattle.view.specs.View.{sectionIn}
 use Rattle.first_checks.specs.Named.{numberNamed, found-nothing, found-at}
 use Rattle.first_checks.specs.LicenceVersion.{version-by-number, version-kept}
@@ -29,9 +28,9 @@ enum-told c = search needs
 returns : tie.Need-returns
 returns c =
     let n = c .before .before in
-    let a = n .before .before .before .args in
-    let o = found-nothing (numberNamed (now (a .d)) (a .gap) (a .h) (ascii "version")) (sym (n .first-named .ensures) ∙ c .enum-told .given .1) in
-    rw (version-by-number (now (a .d)) (a .gap) (a .h), o)
+    let a = n .before .before .before .before .args in
+    let o = found-nothing (numberNamed (now (a .d)) (now (a .t)) (a .v) (ascii "version")) (sym (n .first-named .ensures) ∙ c .enum-told .given .1) in
+    rw (version-by-number (now (a .d)) (now (a .t)) (a .v), o)
 
 section-requires : tie.Need-section-requires
 section-requires c κs = search needs
@@ -39,8 +38,8 @@ section-requires c κs = search needs
 parsed-version-requires : tie.Need-parsed-version-requires
 parsed-version-requires c κs = search needs
 
-enum-known-v : tie.Need-enum-known-v
-enum-known-v c = search needs
+enum-known-version : tie.Need-enum-known-version
+enum-known-version c = search needs
 
 enum-told-2 : tie.Need-enum-told-2
 enum-told-2 c = search needs
@@ -50,27 +49,27 @@ returns-2 c =
     let v = c .before .before .before in
     let i = v .before .before .before in
     let n = i .before .before in
-    let z = n .before .before .before in
+    let z = n .before .before .before .before in
     let a = z .args in
     let k = i .i .given .0 .0 in
-    let o = found-at (numberNamed (now (a .d)) (a .gap) (a .h) (ascii "version")) k (sym (n .first-named .ensures) ∙ i .i .given .1) in
-    let p = version-kept (now (a .d)) (a .gap) (a .h) k o (z .pre .1) in
+    let o = found-at (numberNamed (now (a .d)) (now (a .t)) (a .v) (ascii "version")) k (sym (n .first-named .ensures) ∙ i .i .given .1) in
+    let p = version-kept (now (a .d)) (now (a .t)) (a .v) k o (z .pre) in
     let q = (rw (v .before .section .ensures) at (v .parsed-version .ensures)) ∙ p in
-    let e : ParsedVersion.Version (c .before .v .given .0 .0) ≡ ParsedVersion.Version (versionIn (byteOrder (a .h .order)) (sectionIn (now (a .d)) (a .gap) (a .h) k .bytes)) =
-    sym (c .before .v .given .1) ∙ q
+    let e : ParsedVersion.Version (c .before .version .given .0 .0) ≡ ParsedVersion.Version (versionIn (a .v .order) (sectionIn (now (a .d)) (now (a .t)) (a .v) k .bytes)) =
+    sym (c .before .version .given .1) ∙ q
     in
-    rw (version-by-number (now (a .d)) (a .gap) (a .h), o) (cc)
+    rw (version-by-number (now (a .d)) (now (a .t)) (a .v), o) (cc)
 
 returns-3 : tie.Need-returns-3
 returns-3 c =
     let v = c .before .before in
     let i = v .before .before .before in
     let n = i .before .before in
-    let z = n .before .before .before in
+    let z = n .before .before .before .before in
     let a = z .args in
     let k = i .i .given .0 .0 in
-    let o = found-at (numberNamed (now (a .d)) (a .gap) (a .h) (ascii "version")) k (sym (n .first-named .ensures) ∙ i .i .given .1) in
-    let p = version-kept (now (a .d)) (a .gap) (a .h) k o (z .pre .1) in
+    let o = found-at (numberNamed (now (a .d)) (now (a .t)) (a .v) (ascii "version")) k (sym (n .first-named .ensures) ∙ i .i .given .1) in
+    let p = version-kept (now (a .d)) (now (a .t)) (a .v) k o (z .pre) in
     let q = (rw (v .before .section .ensures) at (v .parsed-version .ensures)) ∙ p in
     let e = sym (c .enum-told2 .given .1) ∙ q in
     let z : _≡_ {A = ℕ} 0 1 = cc in
@@ -87,7 +86,7 @@ version-of-spec =
     returns
     section-requires
     parsed-version-requires
-    enum-known-v
+    enum-known-version
     enum-told-2
     returns-2
     returns-3)

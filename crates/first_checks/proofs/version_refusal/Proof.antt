@@ -3,7 +3,6 @@ use mathlib.Core.Path.{sym, _∙_}
 use mathlib.Core.Option.{none}
 use denote.Ref.{now}
 use Rattle.model.specs.Bytes.{ascii}
-use Rattle.model.specs.Deposit.{byteOrder}
 use Rattle.model.specs.Refusals.{versionRefusal}
 use Rattle.first_checks.specs.Named.{numberNamed, found-nothing, found-at, made-of-named, number-below}
 use borrow.Author.Needs.{needs}
@@ -25,9 +24,9 @@ enum-told c = search needs
 returns : tie.Need-returns
 returns c =
     let n = c .before .before in
-    let a = n .before .before .before .before .args in
-    let o = found-nothing (numberNamed (now (a .d)) (a .gap) (a .h) (ascii "version")) (sym (n .first-named .ensures) ∙ c .enum-told .given .1) in
-    rw (made-of-named (now (a .d)) (a .gap) (a .h) (ascii "version") none (versionRefusal (byteOrder (a .h .order))), o)
+    let a = n .before .before .before .before .before .args in
+    let o = found-nothing (numberNamed (now (a .d)) (now (a .t)) (a .v) (ascii "version")) (sym (n .first-named .ensures) ∙ c .enum-told .given .1) in
+    rw (made-of-named (now (a .d)) (now (a .t)) (a .v) (ascii "version") none (versionRefusal (a .v .order)), o)
 
 section-requires : tie.Need-section-requires
 section-requires c κs = search needs
@@ -36,19 +35,19 @@ check-version-requires : tie.Need-check-version-requires
 check-version-requires c κs =
     let i = c .before .before in
     let n = i .before .before in
-    let z = n .before .before .before .before in
+    let z = n .before .before .before .before .before in
     let a = z .args in
-    let o = found-at (numberNamed (now (a .d)) (a .gap) (a .h) (ascii "version")) (i .i .given .0 .0) (sym (n .first-named .ensures) ∙ i .i .given .1) in
-    let l = z .pre .2 (i .i .given .0 .0) (number-below (now (a .d)) (a .gap) (a .h) (ascii "version") (i .i .given .0 .0) o) in
-    (z .pre .0, z .pre .1, rw (c .section .ensures) l)
+    let o = found-at (numberNamed (now (a .d)) (now (a .t)) (a .v) (ascii "version")) (i .i .given .0 .0) (sym (n .first-named .ensures) ∙ i .i .given .1) in
+    let l = z .pre .1 .relocations-inside (i .i .given .0 .0) (number-below (now (a .d)) (now (a .t)) (a .v) (ascii "version") (i .i .given .0 .0) o) in
+    (z .pre .0, rw (c .section .ensures) l)
 
 returns-2 : tie.Need-returns-2
 returns-2 c =
     let i = c .before .before .before in
     let n = i .before .before in
-    let a = n .before .before .before .before .args in
-    let o = found-at (numberNamed (now (a .d)) (a .gap) (a .h) (ascii "version")) (i .i .given .0 .0) (sym (n .first-named .ensures) ∙ i .i .given .1) in
-    rw (made-of-named (now (a .d)) (a .gap) (a .h) (ascii "version") none (versionRefusal (byteOrder (a .h .order))), o, c .check-version .ensures, c .before .section .ensures)
+    let a = n .before .before .before .before .before .args in
+    let o = found-at (numberNamed (now (a .d)) (now (a .t)) (a .v) (ascii "version")) (i .i .given .0 .0) (sym (n .first-named .ensures) ∙ i .i .given .1) in
+    rw (made-of-named (now (a .d)) (now (a .t)) (a .v) (ascii "version") none (versionRefusal (a .v .order)), o, c .check-version .ensures, c .before .section .ensures)
 
 pub version-refusal-spec : {M : Type 1} → statement M
 version-refusal-spec =

@@ -35,8 +35,8 @@ returns c =
     let w = o .before .before in
     let s = w .before .before in
     let y = s .before .before in
-    let a = y .before .before .before .args in
-    row-made (now (a .d)) (a .j) (a .rows) (y .symbol .result) (s .before .home .result) (s .section .result) (o .offset .result) (w .wide64 .result) (c .before .capped-sum .result) (c .capped-sum2 .result)
+    let a = y .before .before .before .before .args in
+    row-made (now (a .d)) (now (a .t)) (a .j) (a .rows) (y .symbol .result) (s .before .home .result) (s .section .result) (o .offset .result) (w .wide64 .result) (c .before .capped-sum .result) (c .capped-sum2 .result)
     (y .symbol .ensures) (s .before .home .ensures) (s .section .ensures) (o .offset .ensures) (w .wide64 .ensures .0) (c .before .capped-sum .ensures) (c .capped-sum2 .ensures)
 
 pub row-spec : {M : Type 1} → statement M

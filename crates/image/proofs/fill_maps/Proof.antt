@@ -14,11 +14,11 @@ use Rattle.image.proofs.fill_maps.Tie as tie
 
 put-map-rows-requires : tie.Need-put-map-rows-requires
 put-map-rows-requires c κs =
-    let z = c .before .before .before .before in
+    let z = c .before .before .before .before .before in
     let a = z .args in
     let at = z .pre .5 in
-    let i = inside (catalogue (now (a .d)) (a .gap) (a .h)) in
-    (z .pre .0 .gap-small, z .pre .0 .rise, z .pre .2, omega (arith, z .pre .3), omega (arith, at .maps, at .small, i .maps), omega (arith, at .own, at .small, i .own), z .pre .6, all-maps (now (a .d)) (a .gap) (a .h) (a .n) (now (a .order)) (z .pre .2) (now (a .out)) (z .pre .0) (z .pre .1) (z .pre .4), z .pre .0 .section-size)
+    let i = inside (catalogue (now (a .d)) (now (a .t)) (a .v)) in
+    (z .pre .0, z .pre .2, omega (arith, z .pre .3), omega (arith, at .maps, at .small, i .maps), omega (arith, at .own, at .small, i .own), z .pre .6, all-maps (now (a .d)) (now (a .t)) (a .v) (a .n) (now (a .order)) (z .pre .2) (now (a .out)) (z .pre .0) (z .pre .1) (z .pre .4))
 
 mul-clear-from : tie.Need-mul-clear-from
 mul-clear-from c = search needs
@@ -31,11 +31,11 @@ same-length c = search needs
 
 returns : tie.Need-returns
 returns c =
-    let z = c .before .before .before .before .before .before .before .before .before .before .before in
+    let z = c .before .before .before .before .before .before .before .before .before .before .before .before in
     let a = z .args in
     c .before .before .clear-from .ensures
     ∙ ap (λ (t : List ℕ). clearedFrom t (a .n * 27)) (c .before .before .before .before .before .before .put-map-rows .ensures)
-    ∙ maps-filled (now (a .d)) (a .gap) (a .h) (a .n) (now (a .order)) (z .pre .2) (now (a .out)) (z .pre .0) (z .pre .1) (a .places .maps) (a .places .own) (z .pre .4) (z .pre .5 .maps) (z .pre .5 .own) (z .pre .6)
+    ∙ maps-filled (now (a .d)) (now (a .t)) (a .v) (a .n) (now (a .order)) (z .pre .2) (now (a .out)) (z .pre .0) (z .pre .1) (a .places .maps) (a .places .own) (z .pre .4) (z .pre .5 .maps) (z .pre .5 .own) (z .pre .6)
 
 pub fill-maps-spec : {M : Type 1} → statement M
 fill-maps-spec =

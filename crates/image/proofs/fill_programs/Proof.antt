@@ -14,10 +14,10 @@ use Rattle.image.proofs.fill_programs.Tie as tie
 
 put-program-rows-requires : tie.Need-put-program-rows-requires
 put-program-rows-requires c κs =
-    let z = c .before .before .before .before in
+    let z = c .before .before .before .before .before in
     let a = z .args in
     let at = z .pre .5 in
-    (z .pre .0 .gap-small, z .pre .0 .rise, z .pre .2, omega (arith, z .pre .3), omega (arith, at .programs, at .small, inside (catalogue (now (a .d)) (a .gap) (a .h)) .programs), z .pre .6)
+    (z .pre .0, z .pre .2, omega (arith, z .pre .3), omega (arith, at .programs, at .small, inside (catalogue (now (a .d)) (now (a .t)) (a .v)) .programs), z .pre .6)
 
 mul-clear-from : tie.Need-mul-clear-from
 mul-clear-from c = search needs
@@ -30,11 +30,11 @@ same-length c = search needs
 
 returns : tie.Need-returns
 returns c =
-    let z = c .before .before .before .before .before .before .before .before .before .before .before in
+    let z = c .before .before .before .before .before .before .before .before .before .before .before .before in
     let a = z .args in
     c .before .before .clear-from .ensures
     ∙ ap (λ (t : List ℕ). clearedFrom t (a .n * 7)) (c .before .before .before .before .before .before .put-program-rows .ensures)
-    ∙ programs-filled (now (a .d)) (a .gap) (a .h) (a .n) (now (a .order)) (z .pre .2) (now (a .out)) (z .pre .0) (z .pre .1) (a .places .programs) (z .pre .4) (z .pre .5 .programs) (z .pre .6)
+    ∙ programs-filled (now (a .d)) (now (a .t)) (a .v) (a .n) (now (a .order)) (z .pre .2) (now (a .out)) (z .pre .0) (z .pre .1) (a .places .programs) (z .pre .4) (z .pre .5 .programs) (z .pre .6)
 
 pub fill-programs-spec : {M : Type 1} → statement M
 fill-programs-spec =

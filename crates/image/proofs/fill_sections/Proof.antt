@@ -14,10 +14,10 @@ use Rattle.image.proofs.fill_sections.Tie as tie
 
 put-section-rows-requires : tie.Need-put-section-rows-requires
 put-section-rows-requires c κs =
-    let z = c .before .before .before .before in
+    let z = c .before .before .before .before .before in
     let a = z .args in
-    let at = z .pre .4 in
-    (z .pre .0, z .pre .1, omega (arith, z .pre .2), omega (arith, at .sections, at .small, inside (catalogue (now (a .d)) (a .gap) (a .h)) .sections), z .pre .5)
+    let at = z .pre .3 in
+    (z .pre .0, omega (arith, z .pre .1), omega (arith, at .sections, at .small, inside (catalogue (now (a .d)) (now (a .t)) (a .v)) .sections), z .pre .4)
 
 mul-clear-from : tie.Need-mul-clear-from
 mul-clear-from c = search needs
@@ -30,11 +30,11 @@ same-length c = search needs
 
 returns : tie.Need-returns
 returns c =
-    let z = c .before .before .before .before .before .before .before .before .before .before .before in
+    let z = c .before .before .before .before .before .before .before .before .before .before .before .before in
     let a = z .args in
     c .before .before .clear-from .ensures
-    ∙ ap (λ (t : List ℕ). clearedFrom t (a .n * 4)) (c .before .before .before .before .before .before .put-section-rows .ensures (a .h))
-    ∙ sections-filled (now (a .d)) (a .gap) (a .h) (a .n) (now (a .order)) (z .pre .1) (now (a .out)) (a .places .sections) (z .pre .3) (z .pre .4 .sections) (z .pre .5)
+    ∙ ap (λ (t : List ℕ). clearedFrom t (a .n * 4)) (c .before .before .before .before .before .before .put-section-rows .ensures)
+    ∙ sections-filled (now (a .d)) (now (a .t)) (a .v) (a .n) (now (a .order)) (z .pre .0) (now (a .out)) (a .places .sections) (z .pre .2) (z .pre .3 .sections) (z .pre .4)
 
 pub fill-sections-spec : {M : Type 1} → statement M
 fill-sections-spec =

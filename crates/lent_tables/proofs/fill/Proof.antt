@@ -22,10 +22,10 @@ fill-maps-requires : tie.Need-fill-maps-requires
 fill-maps-requires c κs = search needs
 
 mul-clear-from : tie.Need-mul-clear-from
-mul-clear-from c = let z = c .before .before .before .before .before .before .before .before .before .before .before .before .before .before .before .before .before .before .before .before .before .before .before .before .before .before .before .before .before .before .before in omega (arith, z .pre .few)
+mul-clear-from c = let z = c .before .before .before .before .before .before .before .before .before .before .before .before .before .before .before .before .before .before .before .before .before .before .before .before .before .before .before .before .before .before .before .before in omega (arith, z .pre .few)
 
 clear-from-requires : tie.Need-clear-from-requires
-clear-from-requires c κs = let z = c .before .before .before .before .before .before .before .before .before .before .before .before .before .before .before .before .before .before .before .before .before .before .before .before .before .before .before .before .before .before .before in z .pre .room-relocations
+clear-from-requires c κs = let z = c .before .before .before .before .before .before .before .before .before .before .before .before .before .before .before .before .before .before .before .before .before .before .before .before .before .before .before .before .before .before .before .before in z .pre .room-relocations
 
 sub-fill-bytes : tie.Need-sub-fill-bytes
 sub-fill-bytes c = search needs
@@ -34,15 +34,15 @@ part-fill-bytes-start : tie.Need-part-fill-bytes-start
 part-fill-bytes-start c = search needs
 
 part-fill-bytes-end : tie.Need-part-fill-bytes-end
-part-fill-bytes-end c = let z = c .before .before .before .before .before .before .before .before .before .before .before .before .before .before .before .before .before .before .before .before .before .before .before .before .before .before .before .before .before .before .before .before .before .before in let y = c .before .before .before .before .before .before .before .before .before .before .before .before .before .before .before .before .before .size .ensures .0 in omega (arith, z .pre .known, y)
+part-fill-bytes-end c = let z = c .before .before .before .before .before .before .before .before .before .before .before .before .before .before .before .before .before .before .before .before .before .before .before .before .before .before .before .before .before .before .before .before .before .before .before in let y = c .before .before .before .before .before .before .before .before .before .before .before .before .before .before .before .before .before .size .ensures .0 in omega (arith, z .pre .known, y)
 
 fill-bytes-requires : tie.Need-fill-bytes-requires
 fill-bytes-requires c κs =
-    let z = c .before .before .before .before .before .before .before .before .before .before .before .before .before .before .before .before .before .before .before .before .before .before .before .before .before .before .before .before .before .before .before .before .before .before .before .before .before in
+    let z = c .before .before .before .before .before .before .before .before .before .before .before .before .before .before .before .before .before .before .before .before .before .before .before .before .before .before .before .before .before .before .before .before .before .before .before .before .before .before in
     let g = z .pre in
     let y = c .before .before .before .before .before .before .before .before .before .before .before .before .before .before .before .before .before .before .before .before .size .ensures .0 in
     let k = c .before .before .before .before .before .before .before .before .before .before .fill-maps in
-    let q : c .before .before .before .before .before .before .before .before .before .before .before .before .before .before .before .before .before .before .before .before .size .result - 0 ≡ z .args .h .symbols = omega (arith, y) in
+    let q : c .before .before .before .before .before .before .before .before .before .before .before .before .before .before .before .before .before .before .before .before .size .result - 0 ≡ z .args .v .symbols = omega (arith, y) in
     (g .readable, g .ok, g .fine, g .held, g .at, rw q (g .ready), rw (k .kept .1 .1 .1 .1 .1 .1 .0) (k .ensures), g .room-bytes)
 
 same-length : tie.Need-same-length
@@ -62,7 +62,7 @@ same-length-5 c = search needs
 
 returns : tie.Need-returns
 returns c =
-    let z = c .before .before .before .before .before .before .before .before .before .before .before .before .before .before .before .before .before .before .before .before .before .before .before .before .before .before .before .before .before .before .before .before .before .before .before .before .before .before .before .before in
+    let z = c .before .before .before .before .before .before .before .before .before .before .before .before .before .before .before .before .before .before .before .before .before .before .before .before .before .before .before .before .before .before .before .before .before .before .before .before .before .before .before .before .before in
     let a = z .args in
     let g = z .pre in
     record {
@@ -71,7 +71,7 @@ returns c =
       maps = c .before .before .before .before .before .before .before .before .before .before .before .before .before .fill-maps .ensures;
       relocations =
           c .before .before .before .before .before .before .before .before .clear-from .ensures
-          ∙ relocations-filled (catalogue (now (a .d)) (a .gap) (a .h)) (now (a .relocations)) (now (a .relocations)) (a .plan .relocations) (g .count) (g .room-relocations) (g .stored);
+          ∙ relocations-filled (catalogue (now (a .d)) (now (a .t)) (a .v)) (now (a .relocations)) (now (a .relocations)) (a .plan .relocations) (g .count) (g .room-relocations) (g .stored);
       bytes = c .before .before .fill-bytes .ensures;
     }
 

@@ -4,9 +4,6 @@ use borrow.Author.Needs.{needs}
 use Rattle.lent_tables.proofs.summary.Statement.{statement}
 use Rattle.lent_tables.proofs.summary.Tie as tie
 
-byte-order-requires : tie.Need-byte-order-requires
-byte-order-requires c κs = search needs
-
 version-of-requires : tie.Need-version-of-requires
 version-of-requires c κs = search needs
 
@@ -35,7 +32,7 @@ returns : tie.Need-returns
 unfolding summaryBy
 returns c = λ j.
     record {
-      order = c .before .before .before .before .before .before .before .before .byte-order .ensures j;
+      order = c .before .before .before .before .before .before .before .before .before .before .args .v .order;
       version = c .before .before .before .before .before .before .before .version-of .ensures j;
       license = c .before .before .before .before .before .before .wide .ensures j;
       sections = c .before .before .before .before .before .wide2 .ensures j;
@@ -50,7 +47,6 @@ pub summary-spec : {M : Type 1} → statement M
 summary-spec =
     tie.close
     (tie.spec
-    byte-order-requires
     version-of-requires
     wide-requires
     wide-requires-2

@@ -1,8 +1,4 @@
 -- `load::load_large` meets its contract: `Sized.antt`'s walk at 65536.
-use Prim.Native.Nat.{ℕ, _*_, _≤_, min}
-use native.Mathlib.Omega.{arith}
-use lib.ListN.{length}
-use base.Logic.{emp, via, fst∗}
 use lib.Dec.{lit<}
 use mir.Syntax.{w64, intBig}
 use contract.Running.{givenOf, tables, tablesOf}
@@ -10,6 +6,7 @@ use denote.Builtin.{u32}
 use denote.Slice.{Room}
 use denote.Triple.Spec.{tripleOf}
 use denote.Triple.Table.{entered, cited}
+use Rattle.load_core.specs.Done.{Open, few-symbols}
 use Rattle.load.proofs.Scratch.{const-big}
 use Rattle.load.proofs.Sized.{Core, Fill, sized}
 use Rattle.load_core.proofs.load_core.Symbol as core-def
@@ -26,15 +23,11 @@ use Rattle.load.proofs.load_large.Code as code
 room : Room u32 65536
 room = (lit< tt, lit< tt)
 
--- the array has room for as many records as a deposit can have
-fits : (n : ℕ) → min n 1048576 ≤ 16 * 65536
-fits n = omega arith
-
 pub load-large-spec : {M : Type 1} → stated.statement M
 unfolding code.routine tablesOf
 load-large-spec 𝓤 H 𝓜 𝓖 𝓡 =
     entered 𝓤 H (tripleOf 𝓤 H (𝓖 .A) load′.signature (load′.spec 𝓤 H (𝓖 .A) (𝓜 .mem) (𝓡 .run)))
     (tables 𝓤 H 𝓜 𝓡 code.env .C) (tables 𝓤 H 𝓜 𝓡 code.env .Λ) #load-large code.function (code.unfolded 𝓤 H 𝓜 𝓡)
-    (sized 𝓤 H (𝓖 .A) (givenOf 𝓤 H 𝓜 𝓖) (𝓜 .mem) (𝓡 .run) 65536 room (intBig w64 65536) (const-big 𝓤 H 65536 (lit< tt)) (λ d. emp 𝓤) (λ d R S walk. via 𝓤 R (fst∗ 𝓤 R (emp 𝓤)) (walk (fits (length d)))) (tablesOf 𝓤 H 𝓜 (tables 𝓤 H 𝓜 𝓡 code.env))
+    (sized 𝓤 H (𝓖 .A) (givenOf 𝓤 H 𝓜 𝓖) (𝓜 .mem) (𝓡 .run) 65536 room (intBig w64 65536) (const-big 𝓤 H 65536 (lit< tt)) Open (λ d t o asked. (asked, few-symbols d t o asked)) (tablesOf 𝓤 H 𝓜 (tables 𝓤 H 𝓜 𝓡 code.env))
     (cited 𝓤 H (Core 𝓤 H (𝓖 .A) (𝓜 .mem) (𝓡 .run)) 𝓜 𝓡 code.env #load-core core-def.routine code.calls-load-core·load-core (core-thm.met 𝓤 H 𝓜 𝓖 𝓡))
     (cited 𝓤 H (Fill 𝓤 H (𝓖 .A) (𝓜 .mem) (𝓡 .run)) 𝓜 𝓡 code.env #fill fill-def.routine code.calls-function-table·fill (fill-thm.met 𝓤 H 𝓜 𝓖 𝓡)))

@@ -1,16 +1,12 @@
--- `load::load_medium` meets its contract: `Sized.antt`'s walk at 8192.
-use Prim.Native.Nat.{ℕ, _*_, _≤_, min}
-use native.Mathlib.Omega.{arith}
-use lib.ListN.{length}
+-- `load::load_medium` meets its contract: `Sized.antt`'s walk at 4096.
 use lib.Dec.{lit<}
 use mir.Syntax.{w64, intBig}
-use contract.Monad.{fact}
 use contract.Running.{givenOf, tables, tablesOf}
 use denote.Builtin.{u32}
 use denote.Slice.{Room}
 use denote.Triple.Spec.{tripleOf}
 use denote.Triple.Table.{entered, cited}
-use denote.Triple.Walked.{needs}
+use Rattle.load.proofs.Outer.{AtMost}
 use Rattle.load.proofs.Scratch.{const-big}
 use Rattle.load.proofs.Sized.{Core, Fill, sized}
 use Rattle.load_core.proofs.load_core.Symbol as core-def
@@ -24,18 +20,14 @@ use Rattle.load.proofs.load_medium as load′
 use Rattle.load.proofs.load_medium.Statement as stated
 use Rattle.load.proofs.load_medium.Code as code
 
-room : Room u32 8192
+room : Room u32 4096
 room = (lit< tt, lit< tt)
-
--- the array has room for each record of so many bytes
-fits : (n : ℕ) → n ≤ 131072 → min n 1048576 ≤ 16 * 8192
-fits n h = omega arith
 
 pub load-medium-spec : {M : Type 1} → stated.statement M
 unfolding code.routine tablesOf
 load-medium-spec 𝓤 H 𝓜 𝓖 𝓡 =
     entered 𝓤 H (tripleOf 𝓤 H (𝓖 .A) load′.signature (load′.spec 𝓤 H (𝓖 .A) (𝓜 .mem) (𝓡 .run)))
     (tables 𝓤 H 𝓜 𝓡 code.env .C) (tables 𝓤 H 𝓜 𝓡 code.env .Λ) #load-medium code.function (code.unfolded 𝓤 H 𝓜 𝓡)
-    (sized 𝓤 H (𝓖 .A) (givenOf 𝓤 H 𝓜 𝓖) (𝓜 .mem) (𝓡 .run) 8192 room (intBig w64 8192) (const-big 𝓤 H 8192 (lit< tt)) (λ d. fact 𝓤 (length d ≤ 131072)) (λ d R S walk. needs 𝓤 (length d ≤ 131072) R (λ h. walk (fits (length d) h))) (tablesOf 𝓤 H 𝓜 (tables 𝓤 H 𝓜 𝓡 code.env))
+    (sized 𝓤 H (𝓖 .A) (givenOf 𝓤 H 𝓜 𝓖) (𝓜 .mem) (𝓡 .run) 4096 room (intBig w64 4096) (const-big 𝓤 H 4096 (lit< tt)) (AtMost 4096) (λ d t o asked. asked) (tablesOf 𝓤 H 𝓜 (tables 𝓤 H 𝓜 𝓡 code.env))
     (cited 𝓤 H (Core 𝓤 H (𝓖 .A) (𝓜 .mem) (𝓡 .run)) 𝓜 𝓡 code.env #load-core core-def.routine code.calls-load-core·load-core (core-thm.met 𝓤 H 𝓜 𝓖 𝓡))
     (cited 𝓤 H (Fill 𝓤 H (𝓖 .A) (𝓜 .mem) (𝓡 .run)) 𝓜 𝓡 code.env #fill fill-def.routine code.calls-function-table·fill (fill-thm.met 𝓤 H 𝓜 𝓖 𝓡)))

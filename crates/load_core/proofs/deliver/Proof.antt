@@ -8,8 +8,8 @@ use Rattle.load_core.proofs.deliver.Tie as tie
 fill-requires : tie.Need-fill-requires
 fill-requires c κs = search needs
 
-handed-over-requires : tie.Need-handed-over-requires
-handed-over-requires c κs = let z = c .before .before .before .before .before .before .before .before .before .before .before .before .before .before .before .before .before .before .before .before .before .before .before .before .before .before .before .before .before .before in version-fine (now (z .args .d)) 4 (z .args .h) (z .pre .ok)
+accepted-requires : tie.Need-accepted-requires
+accepted-requires c κs = let z = c .before .before .before .before .before .before .before .before .before .before .before .before .before .before .before .before .before .before .before .before .before .before .before .before .before .before .before .before .before .before .before in version-fine (now (z .args .d)) (now (z .args .t)) (z .args .v) (z .pre .ok)
 
 same-length : tie.Need-same-length
 same-length c = search needs
@@ -34,7 +34,7 @@ deliver-spec =
     tie.close
     (tie.spec
     fill-requires
-    handed-over-requires
+    accepted-requires
     same-length
     same-length-2
     same-length-3

@@ -1,26 +1,21 @@
 -- `load_core::load_core` meets its contract.
-use mathlib.Core.Path.{refl, sym, _∙_}
+use mathlib.Core.Path.{refl}
 use native.Mathlib.Omega.{arith}
 use denote.Ref.{now}
-use Rattle.deposit.specs.Accepted.{accepted}
-use Rattle.accepted.specs.Readable.{readable}
 use Rattle.tables.specs.Parsed.{lent-length}
-use Rattle.load_core.specs.Core.{back-done, opened-done}
+use Rattle.load_core.specs.Core.{open-view, back-done, opened-done}
 use borrow.Author.Needs.{needs}
 use Rattle.load_core.proofs.load_core.Statement.{statement}
 use Rattle.load_core.proofs.load_core.Tie as tie
 
-open-requires : tie.Need-open-requires
-open-requires c κs = search needs
-
-enum-known-r : tie.Need-enum-known-r
-enum-known-r c = search needs
+enum-known-opened : tie.Need-enum-known-opened
+enum-known-opened c = search needs
 
 refuse-requires : tie.Need-refuse-requires
 refuse-requires c κs = search needs
 
-enum-known-h : tie.Need-enum-known-h
-enum-known-h c = search needs
+enum-known-opened-2 : tie.Need-enum-known-opened-2
+enum-known-opened-2 c = search needs
 
 size-requires : tie.Need-size-requires
 size-requires c κs = search needs
@@ -34,19 +29,18 @@ part-load-sized-start c = search needs
 part-load-sized-end : tie.Need-part-load-sized-end
 part-load-sized-end c =
     let z = c .before .before .before .before .before .before .before .before .before .before .before .before .before .before .before .before .before .before .before in
-    let h = c .before .before .before .before .before .before .before .h .given .0 .0 in
-    let r = readable (now (z .args .d)) h (accepted (now (z .args .d)) h (sym (c .before .before .before .before .before .before .before .before .before .open .ensures) ∙ c .before .before .before .before .before .before .before .h .given .1)) in
-    omega (arith, c .before .before .before .before .before .size .ensures .0, r .records-inside, r .few-symbols, z .pre)
+    let v = c .before .before .before .before .before .before .before .opened2 .given in
+    let room = rw (v .1) at (z .pre .1) in
+    omega (arith, c .before .before .before .before .before .size .ensures .0, room)
 
 load-sized-requires : tie.Need-load-sized-requires
 load-sized-requires c κs =
     let z = c .before .before .before .before .before .before .before .before .before .before .before .before .before .before .before .before .before .before .before .before in
     let a = z .args in
-    let h = c .before .before .before .before .before .before .before .before .h .given .0 .0 in
-    let r = readable (now (a .d)) h (accepted (now (a .d)) h (sym (c .before .before .before .before .before .before .before .before .before .before .open .ensures) ∙ c .before .before .before .before .before .before .before .before .h .given .1)) in
-    let y = c .before .before .before .before .before .before .size .ensures .0 in (
-      r,
-      lent-length (now (a .order)) _ _ y (omega (arith, r .records-inside, r .few-symbols, z .pre)),
+    let v = c .before .before .before .before .before .before .before .before .opened2 .given in
+    let room = rw (v .1) at (z .pre .1) in (
+      open-view (now (a .d)) (now (a .t)) (a .opened) (v .0 .0) (z .pre .0) (v .1),
+      lent-length (now (a .order)) _ _ (c .before .before .before .before .before .before .size .ensures .0) room,
       record { sections = refl; programs = refl; maps = refl; relocations = refl; bytes = refl },
       omega arith,
     )
@@ -68,12 +62,10 @@ same-length-5 c = search needs
 
 returns : tie.Need-returns
 returns c =
-    let z = c .before .before .before .before .before .before .before .before .before .before .before .before .before .before .before .before .before .before .before .before .before .before .before .before .before .before .before .before .before in
-    let a = z .args in
-    let q = c .before .before .before .before .before .before .before .before .before .before .before .before .before .before .before .before .before .r .given in
+    let a = c .before .before .before .before .before .before .before .before .before .before .before .before .before .before .before .before .before .before .before .before .before .before .before .before .before .before .before .before .before .args in
+    let q = c .before .before .before .before .before .before .before .before .before .before .before .before .before .before .before .before .before .opened .given in
     let e = c .before .before .before .before .before .before .before .before .before .before .refuse .ensures in
-    back-done (now (a .d)) (now (a .entries)) (now (a .patches)) (a .rewrite) (a .room) (now (a .sections)) (now (a .programs)) (now (a .maps)) (now (a .relocations)) (now (a .bytes)) _ _ _ _ _ (now (a .order)) (e .1) (q .0 .0) _
-    (sym (c .before .before .before .before .before .before .before .before .before .before .before .before .before .before .before .before .before .before .before .open .ensures) ∙ q .1) (e .0)
+    back-done (now (a .d)) (now (a .t)) (a .opened) (now (a .entries)) (now (a .patches)) (a .rewrite) (a .room) (now (a .sections)) (now (a .programs)) (now (a .maps)) (now (a .relocations)) (now (a .bytes)) _ _ _ _ _ (now (a .order)) (e .1) (q .0 .0) _ (q .1) (e .0)
 
 same-length-6 : tie.Need-same-length-6
 same-length-6 c = search needs
@@ -95,20 +87,17 @@ same-length-11 c = search needs
 
 returns-2 : tie.Need-returns-2
 returns-2 c =
-    let z = c .before .before .before .before .before .before .before .before .before .before .before .before .before .before .before .before .before .before .before .before .before .before .before .before .before .before .before .before .before .before .before .before .before in
-    let a = z .args in
-    let h = c .before .before .before .before .before .before .before .before .before .before .before .before .before .before .before .before .before .before .before .before .before .h .given .0 .0 in
-    opened-done (now (a .d)) (now (a .entries)) (now (a .patches)) (a .rewrite) (a .room) (now (a .sections)) (now (a .programs)) (now (a .maps)) (now (a .relocations)) (now (a .bytes)) _ _ _ _ _ _ _ h _
-    (sym (c .before .before .before .before .before .before .before .before .before .before .before .before .before .before .before .before .before .before .before .before .before .before .before .open .ensures) ∙ c .before .before .before .before .before .before .before .before .before .before .before .before .before .before .before .before .before .before .before .before .before .h .given .1) (c .before .before .before .before .before .before .before .before .before .before .before .before .load-sized .ensures)
+    let a = c .before .before .before .before .before .before .before .before .before .before .before .before .before .before .before .before .before .before .before .before .before .before .before .before .before .before .before .before .before .before .before .before .before .args in
+    let q = c .before .before .before .before .before .before .before .before .before .before .before .before .before .before .before .before .before .before .before .before .before .opened2 .given in
+    opened-done (now (a .d)) (now (a .t)) (a .opened) (now (a .entries)) (now (a .patches)) (a .rewrite) (a .room) (now (a .sections)) (now (a .programs)) (now (a .maps)) (now (a .relocations)) (now (a .bytes)) _ _ _ _ _ _ _ (q .0 .0) _ (q .1) (c .before .before .before .before .before .before .before .before .before .before .before .before .load-sized .ensures)
 
 pub load-core-spec : {M : Type 1} → statement M
 load-core-spec =
     tie.close
     (tie.spec
-    open-requires
-    enum-known-r
+    enum-known-opened
     refuse-requires
-    enum-known-h
+    enum-known-opened-2
     size-requires
     sub-load-sized
     part-load-sized-start

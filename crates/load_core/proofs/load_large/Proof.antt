@@ -28,12 +28,11 @@ slice-aggregate-load-opened-6 c = search needs
 
 load-opened-requires : tie.Need-load-opened-requires
 load-opened-requires c κs =
-    let z = c .before .before .before .before .before .before .before .before .before .before .before .before .before .before .before .before .before .before .before .before .before in
+    let z = c .before .before .before .before .before .before .before .before .before .before .before .before .before .before .before .before .before .before .before .before .before .before in
     let a = z .args in
-    let r = z .pre .0 in
-    let i = r .records-inside in (
+    let r = z .pre .0 in (
       r,
-      scratch-of (a .h) _ _ (now (a .f)) _ _ _ _ 4096 65536 69632 69632 65536 4096 (length-replicate {A = ℕ} 4096 0) (length-replicate {A = ℕ} 65536 0) (length-replicate {A = ℕ} 69632 0) (length-replicate {A = ℕ} 69632 0) (length-replicate {A = ℕ} 65536 0) (length-replicate {A = ℕ} 4096 0) (z .pre .1) (r .few-symbols)
+      scratch-of (a .v) _ _ (now (a .f)) _ _ _ _ 4096 65536 69632 69632 65536 4096 (length-replicate {A = ℕ} 4096 0) (length-replicate {A = ℕ} 65536 0) (length-replicate {A = ℕ} 69632 0) (length-replicate {A = ℕ} 69632 0) (length-replicate {A = ℕ} 65536 0) (length-replicate {A = ℕ} 4096 0) (z .pre .1) (r .few-symbols)
           (omega (arith, r .few-sections, r .few-symbols, r .few-relocations), omega (arith, r .few-sections, r .few-symbols, r .few-relocations), omega (arith, r .few-sections, r .few-symbols, r .few-relocations), omega (arith, r .few-sections, r .few-symbols, r .few-relocations), omega (arith, r .few-sections, r .few-symbols, r .few-relocations), omega (arith, r .few-sections, r .few-symbols, r .few-relocations), omega (arith, r .few-sections, r .few-symbols, r .few-relocations), omega (arith, r .few-sections, r .few-symbols, r .few-relocations), omega (arith, r .few-sections, r .few-symbols, r .few-relocations), omega arith, omega arith, omega arith),
       z .pre .2,
       z .pre .3,

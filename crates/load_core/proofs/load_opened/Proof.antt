@@ -21,12 +21,12 @@ enum-known-plan c = search needs
 
 deliver-requires : tie.Need-deliver-requires
 deliver-requires c κs =
-    let z = c .before .before .before .before .before .before .before .before .before .before .before .before .before .before .before .before .before .before .before .before .before .before .before .before .before .before .before .before .before .before .before .before .before .before .before .before .before .before .before .before .before .before .before .before .before .before .before .before .before .before .before .before .before .before in
+    let z = c .before .before .before .before .before .before .before .before .before .before .before .before .before .before .before .before .before .before .before .before .before .before .before .before .before .before .before .before .before .before .before .before .before .before .before .before .before .before .before .before .before .before .before .before .before .before .before .before .before .before .before .before .before .before .before in
     let a = z .args in
     let k = c .before .before .before .before .before .before .before .before .before .before .before .before .before .before .before .before .before .before .before .before .before .before .before .before .before .before .before .before .before .before .decide in
     let q = c .before .before .before .before .before .before .before .before .before .before .before .before .plan .given in
     let g = rw (q .1) at (k .ensures .0) in
-    fillable (now (a .d)) (a .h) (now (a .entries)) (now (a .patches)) (a .room) (q .0 .0) _ _ _ _ _ _ (z .pre .0) g _ _ _ _ _ _ (z .pre .2) (k .kept .1 .1 .1 .1 .1 .1 .1 .1 .1 .1 .1 .1 .1 .0) (omega (arith, k .kept .1 .1 .1 .1 .1 .1 .1 .1 .1 .1 .1 .0, z .pre .1 .symbols)) (z .pre .3)
+    fillable (now (a .d)) (now (a .t)) (a .v) (now (a .entries)) (now (a .patches)) (a .room) (q .0 .0) _ _ _ _ _ _ (z .pre .0) g _ _ _ _ _ _ (z .pre .2) (k .kept .1 .1 .1 .1 .1 .1 .1 .1 .1 .1 .1 .1 .1 .0) (omega (arith, k .kept .1 .1 .1 .1 .1 .1 .1 .1 .1 .1 .1 .0, z .pre .1 .symbols)) (z .pre .3)
     (k .ensures .1 (q .0 .0) (q .1))
 
 same-length : tie.Need-same-length
@@ -67,13 +67,13 @@ same-length-12 c = search needs
 
 returns : tie.Need-returns
 returns c =
-    let z = c .before .before .before .before .before .before .before .before .before .before .before .before .before .before .before .before .before .before .before .before .before .before .before .before .before .before .before .before .before .before .before .before .before .before .before .before .before .before .before .before .before .before .before .before .before .before .before .before .before .before .before .before .before .before .before .before .before .before .before in
+    let z = c .before .before .before .before .before .before .before .before .before .before .before .before .before .before .before .before .before .before .before .before .before .before .before .before .before .before .before .before .before .before .before .before .before .before .before .before .before .before .before .before .before .before .before .before .before .before .before .before .before .before .before .before .before .before .before .before .before .before .before .before in
     let a = z .args in
     let k = c .before .before .before .before .before .before .before .before .before .before .before .before .before .before .before .before .before .before .before .before .before .before .before .before .before .before .before .before .before .before .before .before .before .before .before .decide in
     let q = c .before .before .before .before .before .before .before .before .before .before .before .before .before .before .before .before .before .r .given in
     let e = c .before .before .before .before .before .before .before .before .before .before .refuse .ensures in
     let g = rw (q .1) at (k .ensures .0) in
-    back-opens (now (a .d)) (a .room) _ _ _ _ _ _ _ _ _ _ _ (sized-again (a .room) _ _ _ _ _ _ (z .pre .2) (k .kept .1 .1 .1 .1 .1 .1 .1 .1 .1 .1 .1 .1 .1 .0)) (e .1) (q .0 .0) _ _ (g (a .rewrite)) (e .0)
+    back-opens (now (a .d)) (now (a .t)) (a .room) _ _ _ _ _ _ _ _ _ _ _ (sized-again (a .room) _ _ _ _ _ _ (z .pre .2) (k .kept .1 .1 .1 .1 .1 .1 .1 .1 .1 .1 .1 .1 .1 .0)) (e .1) (q .0 .0) _ _ (g (a .rewrite)) (e .0)
 
 same-length-13 : tie.Need-same-length-13
 same-length-13 c = search needs
@@ -85,7 +85,7 @@ same-length-15 : tie.Need-same-length-15
 same-length-15 c = search needs
 
 same-length-16 : tie.Need-same-length-16
-same-length-16 c = c .before .before .before .before .before .before .before .before .before .before .deliver .kept .1 .1 .1 .1 .1 .1 .1 .1 .1 .1 .1 .1 .1 .1 .1 .0 ∙ c .before .before .before .before .before .before .before .before .before .before .before .before .before .before .before .before .before .before .before .before .before .before .before .before .before .before .before .before .before .before .before .before .before .before .before .before .before .before .before .before .before .decide .kept .1 .1 .1 .1 .1 .1 .1 .1 .1 .1 .1 .1 .1 .0
+same-length-16 c = c .before .before .before .before .before .before .before .before .before .before .deliver .kept .1 .1 .1 .1 .1 .1 .1 .1 .1 .1 .1 .1 .1 .1 .1 .1 .0 ∙ c .before .before .before .before .before .before .before .before .before .before .before .before .before .before .before .before .before .before .before .before .before .before .before .before .before .before .before .before .before .before .before .before .before .before .before .before .before .before .before .before .before .decide .kept .1 .1 .1 .1 .1 .1 .1 .1 .1 .1 .1 .1 .1 .0
 
 same-length-17 : tie.Need-same-length-17
 same-length-17 c = search needs
@@ -113,13 +113,13 @@ same-length-24 c = c .before .before .before .before .before .before .before .be
 
 returns-2 : tie.Need-returns-2
 returns-2 c =
-    let z = c .before .before .before .before .before .before .before .before .before .before .before .before .before .before .before .before .before .before .before .before .before .before .before .before .before .before .before .before .before .before .before .before .before .before .before .before .before .before .before .before .before .before .before .before .before .before .before .before .before .before .before .before .before .before .before .before .before .before .before .before .before .before .before .before .before in
+    let z = c .before .before .before .before .before .before .before .before .before .before .before .before .before .before .before .before .before .before .before .before .before .before .before .before .before .before .before .before .before .before .before .before .before .before .before .before .before .before .before .before .before .before .before .before .before .before .before .before .before .before .before .before .before .before .before .before .before .before .before .before .before .before .before .before .before .before in
     let a = z .args in
     let k = c .before .before .before .before .before .before .before .before .before .before .before .before .before .before .before .before .before .before .before .before .before .before .before .before .before .before .before .before .before .before .before .before .before .before .before .before .before .before .before .before .before .decide in
     let q = c .before .before .before .before .before .before .before .before .before .before .before .before .before .before .before .before .before .before .before .before .before .before .before .plan .given in
     let e = c .before .before .before .before .before .before .before .before .before .before .deliver .ensures in
     let g = rw (q .1) at (k .ensures .0) in
-    goes-opens (now (a .d)) (a .h) (now (a .entries)) (now (a .patches)) (a .room) (q .0 .0) _ _ _ _ _ _ (z .pre .0) g (a .rewrite) _ _ _ _ _ _ _ _ _ _ _ (sized-again (a .room) _ _ _ _ _ _ (z .pre .2) (k .kept .1 .1 .1 .1 .1 .1 .1 .1 .1 .1 .1 .1 .1 .0)) (e .1) (e .0)
+    goes-opens (now (a .d)) (now (a .t)) (a .v) (now (a .entries)) (now (a .patches)) (a .room) (q .0 .0) _ _ _ _ _ _ (z .pre .0) g (a .rewrite) _ _ _ _ _ _ _ _ _ _ _ (sized-again (a .room) _ _ _ _ _ _ (z .pre .2) (k .kept .1 .1 .1 .1 .1 .1 .1 .1 .1 .1 .1 .1 .1 .0)) (e .1) (e .0)
 
 pub load-opened-spec : {M : Type 1} → statement M
 load-opened-spec =

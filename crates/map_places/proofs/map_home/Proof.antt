@@ -21,16 +21,16 @@ home-requires c κs = search needs
 returns : tie.Need-returns
 unfolding mapHome
 returns c =
-    let a = c .before .before .before .args in
-    let t : ltb (a .n) (a .h .sections) ≡ true = lt-ltb (a .n) (a .h .sections) (omega arith) in
+    let a = c .before .before .before .before .args in
+    let t : ltb (a .n) (a .v .sections) ≡ true = lt-ltb (a .n) (a .v .sections) (omega arith) in
     rw t
 
 returns-2 : tie.Need-returns-2
 unfolding mapHome
 returns-2 c =
-    let a = c .before .before .before .before .before .before .args in
-    let t : ltb (a .n) (a .h .sections) ≡ false = le-ltb (a .n) (a .h .sections) (omega arith) in
-    rw t (c .home .ensures ∙ ap (homeOf (now (a .d)) (a .gap) (a .h)) (c .before .symbol .ensures) ∙ sym (home-by-record (now (a .d)) (a .gap) (a .h) (a .n - a .h .sections)))
+    let a = c .before .before .before .before .before .before .before .args in
+    let t : ltb (a .n) (a .v .sections) ≡ false = le-ltb (a .n) (a .v .sections) (omega arith) in
+    rw t (c .home .ensures ∙ ap (homeOf (now (a .d)) (now (a .t)) (a .v)) (c .before .symbol .ensures) ∙ sym (home-by-record (now (a .d)) (now (a .t)) (a .v) (a .n - a .v .sections)))
 
 pub map-home-spec : {M : Type 1} → statement M
 map-home-spec = tie.close (tie.spec symbol-requires home-requires returns returns-2)

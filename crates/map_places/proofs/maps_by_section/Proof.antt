@@ -11,10 +11,10 @@ use Rattle.map_places.proofs.maps_by_section.Statement.{statement}
 use Rattle.map_places.proofs.maps_by_section.Tie as tie
 
 abbrev Inv-loop : tie.InvT-loop
-Inv-loop d gap h maps n by₀ k₀ by k = (k ≤ n) × (length by ≡ length by₀) × (by ≡ placesFrom d gap h maps n k ++ drop (h .sections) by₀)
+Inv-loop d t v maps n by₀ k₀ by k = (k ≤ n) × (length by ≡ length by₀) × (by ≡ placesFrom d t v maps n k ++ drop (v .sections) by₀)
 
 abbrev μ-loop : tie.MeasureT-loop
-μ-loop d gap h maps n by₀ k₀ by k = k
+μ-loop d t v maps n by₀ k₀ by k = k
 
 size-requires : tie.Need-size-requires Inv-loop μ-loop
 size-requires c κs = search needs
@@ -24,8 +24,8 @@ clear-requires c κs = search needs
 
 loop-holds : tie.Need-loop-holds Inv-loop μ-loop
 loop-holds c =
-    let a = c .before .before .before .before .before .before .before .before .args in
-    (omega arith, refl, places-start (now (a .d)) (a .gap) (a .h) (now (a .maps)) (a .n) (c .before .before .clear .last .0) (now (a .by)) (c .before .before .before .size .result) (c .before .before .before .size .ensures .0) (c .before .before .clear .ensures))
+    let a = c .before .before .before .before .before .before .before .before .before .args in
+    (omega arith, refl, places-start (now (a .d)) (now (a .t)) (a .v) (now (a .maps)) (a .n) (c .before .before .clear .last .0) (now (a .by)) (c .before .before .before .size .result) (c .before .before .before .size .ensures .0) (c .before .before .clear .ensures))
 
 sub-map-home : tie.Need-sub-map-home Inv-loop μ-loop
 sub-map-home c = search needs
@@ -48,11 +48,11 @@ cast-by c = search needs
 mul-by : tie.Need-mul-by Inv-loop μ-loop
 mul-by c = search needs
 
-home : (c : tie.After-size2 Inv-loop μ-loop) → (let a = c .before .before .before .before .before .before .before .before .before .before .before .before .before .args in c .size2 .result ≡ mapHome (now (a .d)) (a .gap) (a .h) (getD (now (a .maps)) (c .before .before .before .before .loop .k - 1) 0))
+home : (c : tie.After-size2 Inv-loop μ-loop) → (let a = c .before .before .before .before .before .before .before .before .before .before .before .before .before .before .args in c .size2 .result ≡ mapHome (now (a .d)) (now (a .t)) (a .v) (getD (now (a .maps)) (c .before .before .before .before .loop .k - 1) 0))
 home c = c .size2 .ensures .0 ∙ c .before .map-home .ensures
 
-below : (c : tie.After-size2 Inv-loop μ-loop) → (let a = c .before .before .before .before .before .before .before .before .before .before .before .before .before .args in mapHome (now (a .d)) (a .gap) (a .h) (getD (now (a .maps)) (c .before .before .before .before .loop .k - 1) 0) < a .h .sections)
-below c = let s = c .before .before .before .before .before .before .before .before .before .before .before .before .before in let a = s .args in home-below (now (a .d)) (a .gap) (a .h) (getD (now (a .maps)) (c .before .before .before .before .loop .k - 1) 0) (s .pre .5 (c .before .before .before .before .loop .k - 1) (omega arith))
+below : (c : tie.After-size2 Inv-loop μ-loop) → (let a = c .before .before .before .before .before .before .before .before .before .before .before .before .before .before .args in mapHome (now (a .d)) (now (a .t)) (a .v) (getD (now (a .maps)) (c .before .before .before .before .loop .k - 1) 0) < a .v .sections)
+below c = let s = c .before .before .before .before .before .before .before .before .before .before .before .before .before .before in let a = s .args in home-below (now (a .d)) (now (a .t)) (a .v) (getD (now (a .maps)) (c .before .before .before .before .loop .k - 1) 0) (s .pre .4 (c .before .before .before .before .loop .k - 1) (omega arith))
 
 slice-write-by : tie.Need-slice-write-by Inv-loop μ-loop
 slice-write-by c = omega (arith, home c, below c)
@@ -65,12 +65,12 @@ loop-less c = search needs
 
 loop-again : tie.Need-loop-again Inv-loop μ-loop
 loop-again c =
-    let a = c .before .before .before .before .before .before .before .before .before .before .before .before .before .args in
+    let a = c .before .before .before .before .before .before .before .before .before .before .before .before .before .before .args in
     let l = c .before .before .before .before .loop in
     let e : l .k - 1 + 1 ≡ l .k = omega arith in (
       omega arith,
       rw length-set (l .inv .1),
-      rw (home c, l .inv .2) (rw e at (places-more (now (a .d)) (a .gap) (a .h) (now (a .maps)) (a .n) (l .k - 1) (drop (a .h .sections) (c .before .before .before .before .before .before .before .clear .last .0)) (omega arith) (omega arith) (below c))),
+      rw (home c, l .inv .2) (rw e at (places-more (now (a .d)) (now (a .t)) (a .v) (now (a .maps)) (a .n) (l .k - 1) (drop (a .v .sections) (c .before .before .before .before .before .before .before .clear .last .0)) (omega arith) (omega arith) (below c))),
     )
 
 same-length : tie.Need-same-length Inv-loop μ-loop
@@ -78,11 +78,11 @@ same-length c = search needs
 
 returns : tie.Need-returns Inv-loop μ-loop
 returns c =
-    let a = c .before .before .before .before .before .before .before .before .before .before .args in
+    let a = c .before .before .before .before .before .before .before .before .before .before .before .args in
     let l = c .before .loop in
     let z : l .k ≡ 0 = omega arith in
     l .inv .2
-    ∙ rw (z, places-all (now (a .d)) (a .gap) (a .h) (now (a .maps)) (a .n), cleared (a .h) (c .before .before .before .before .clear .last .0) (now (a .by)) (c .before .before .before .before .before .size .result) (c .before .before .before .before .before .size .ensures .0) (c .before .before .before .before .clear .ensures))
+    ∙ rw (z, places-all (now (a .d)) (now (a .t)) (a .v) (now (a .maps)) (a .n), cleared (a .v .sections) (c .before .before .before .before .clear .last .0) (now (a .by)) (c .before .before .before .before .before .size .result) (c .before .before .before .before .before .size .ensures .0) (c .before .before .before .before .clear .ensures))
 
 pub maps-by-section-spec : {M : Type 1} → statement M
 maps-by-section-spec =

@@ -25,13 +25,13 @@ own-length-requires c κs = search needs
 
 parse-data-map-section-requires : tie.Need-parse-data-map-section-requires
 parse-data-map-section-requires c κs =
-    let b = c .before .before .before .before .before .before .before in
+    let b = c .before .before .before .before .before .before .before .before in
     let s = c .before .before .before .before .before .section in
-    rw (s .ensures) (b .pre .2 (b .args .n) (b .pre .1))
+    rw (s .ensures) (b .pre .1 .section-size (b .args .n) (b .pre .0))
 
 returns : tie.Need-returns
 returns c =
-    let b = c .before .before .before .before .before .before .before .before in
+    let b = c .before .before .before .before .before .before .before .before .before in
     let a = b .args in
     let s = c .before .before .before .before .before .before .section in
     let k = c .before .before .before .before .before .kind-of in
@@ -40,9 +40,9 @@ returns c =
     record {
       row =
           rw (c .parse-data-map-section .ensures, own .ensures .0, c .before .before .kind-number .ensures, c .before .before .before .wide64 .ensures .0, len .ensures .0, k .ensures)
-          (data-is (now (a .d)) (a .gap) (a .h) (a .n) (s .result) (b .pre .1) (s .ensures));
+          (data-is (now (a .d)) (now (a .t)) (a .v) (a .n) (s .result) (b .pre .0) (s .ensures));
       name-short = len .ensures .1;
-      own-short = own .ensures .1 (b .pre .2);
+      own-short = own .ensures .1 (b .pre .1);
     }
 
 pub data-row-spec : {M : Type 1} → statement M

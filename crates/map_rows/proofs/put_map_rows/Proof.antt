@@ -14,19 +14,19 @@ use Rattle.map_rows.proofs.put_map_rows.Statement.{statement}
 use Rattle.map_rows.proofs.put_map_rows.Tie as tie
 
 abbrev Inv-loop : tie.InvT-loop
-Inv-loop d gap h order n at own out₀ place₀ own-place₀ k₀ out place own-place k =
+Inv-loop d t v order n at own out₀ place₀ own-place₀ k₀ out place own-place k =
     (k ≤ n) × (length out ≡ length out₀) × (place ≤ at + k * 4294967296) × (own-place ≤ own + k * 4294967296)
-    × (place ≡ at + length (each (nameOf d gap h) (take k order)))
-    × (own-place ≡ own + length (each (ownOf d gap h) (take k order)))
-    × (out ≡ mapRows d gap h at own (take k order) ++ drop (k * 27) out₀)
+    × (place ≡ at + length (each (nameOf d t v) (take k order)))
+    × (own-place ≡ own + length (each (ownOf d t v) (take k order)))
+    × (out ≡ mapRows d t v at own (take k order) ++ drop (k * 27) out₀)
 
 abbrev μ-loop : tie.MeasureT-loop
-μ-loop d gap h order n at own out₀ place₀ own-place₀ k₀ out place own-place k = n - k
+μ-loop d t v order n at own out₀ place₀ own-place₀ k₀ out place own-place k = n - k
 
 loop-holds : tie.Need-loop-holds Inv-loop μ-loop
 unfolding each placed
 loop-holds c =
-    let a = c .before .before .before .args in
+    let a = c .before .before .before .before .args in
     (omega arith, refl, omega arith, omega arith, sym (add-zero (a .at)), sym (add-zero (a .own)), refl)
 
 mul-map-row : tie.Need-mul-map-row Inv-loop μ-loop
@@ -37,8 +37,8 @@ shared-slice-read-map-row c = search needs
 
 map-row-requires : tie.Need-map-row-requires Inv-loop μ-loop
 map-row-requires c κs =
-    let b = c .before .before .before .before .before .before in
-    (b .pre .0, b .pre .1, b .pre .7 (c .before .before .loop .k) (c .before .loop-test .taken), b .pre .8)
+    let b = c .before .before .before .before .before .before .before in
+    (b .pre .0, b .pre .6 (c .before .before .loop .k) (c .before .loop-test .taken))
 
 mul-put-row : tie.Need-mul-put-row Inv-loop μ-loop
 mul-put-row c = search needs
@@ -61,22 +61,22 @@ loop-less c = search needs
 loop-again : tie.Need-loop-again Inv-loop μ-loop
 loop-again c =
     let l = c .before .before .before .before .before .before .before .before .before in
-    let b = l .before .before .before .before in
+    let b = l .before .before .before .before .before in
     let a = b .args in
-    let t = c .before .before .before .before .before .before .before .before .loop-test .taken in
+    let u = c .before .before .before .before .before .before .before .before .loop-test .taken in
     let r = c .before .before .before .before .before .before .map-row in
     let put = c .before .before .before .before .put-row in
     let k : ℕ = l .loop .k in
-    let m : k < length (now (a .order)) = omega (arith, t, b .pre .2) in (
-      omega (arith, t),
+    let m : k < length (now (a .order)) = omega (arith, u, b .pre .1) in (
+      omega (arith, u),
       put .kept .0 ∙ l .loop .inv .1,
       omega (arith, l .loop .inv .2, r .ensures .name-short),
       omega (arith, l .loop .inv .3, r .ensures .own-short),
-      place-next (now (a .d)) (a .gap) (a .h) (now (a .order)) k (r .result) (r .ensures .row) (a .at) (l .loop .place) (l .loop .inv .4) m,
-      own-next (now (a .d)) (a .gap) (a .h) (now (a .order)) k (r .result) (r .ensures .row) (a .own) (l .loop .own-place) (l .loop .inv .5) m,
+      place-next (now (a .d)) (now (a .t)) (a .v) (now (a .order)) k (r .result) (r .ensures .row) (a .at) (l .loop .place) (l .loop .inv .4) m,
+      own-next (now (a .d)) (now (a .t)) (a .v) (now (a .order)) k (r .result) (r .ensures .row) (a .own) (l .loop .own-place) (l .loop .inv .5) m,
       put .ensures
-          ∙ rows-more (now (a .d)) (a .gap) (a .h) (now (a .order)) k (r .result) (r .ensures .row) (a .at) (a .own) (l .loop .place) (l .loop .own-place) (now (a .out)) (l .loop .out)
-          (l .loop .inv .4) (l .loop .inv .5) m (omega (arith, t, b .pre .6)) (l .loop .inv .6),
+          ∙ rows-more (now (a .d)) (now (a .t)) (a .v) (now (a .order)) k (r .result) (r .ensures .row) (a .at) (a .own) (l .loop .place) (l .loop .own-place) (now (a .out)) (l .loop .out)
+          (l .loop .inv .4) (l .loop .inv .5) m (omega (arith, u, b .pre .5)) (l .loop .inv .6),
     )
 
 same-length : tie.Need-same-length Inv-loop μ-loop
@@ -85,7 +85,7 @@ same-length c = search needs
 returns : tie.Need-returns Inv-loop μ-loop
 returns c =
     let l = c .before in
-    let e : l .loop .k ≡ l .before .before .before .before .args .n = omega arith in
+    let e : l .loop .k ≡ l .before .before .before .before .before .args .n = omega arith in
     l .loop .inv .6 ∙ rw e
 
 pub put-map-rows-spec : {M : Type 1} → statement M

@@ -12,11 +12,11 @@ use Rattle.map_sections.proofs.map_numbers.Statement.{statement}
 use Rattle.map_sections.proofs.map_numbers.Tie as tie
 
 abbrev Inv-loop : tie.InvT-loop
-Inv-loop order lo hi out₀ w sections n₀ i₀ out n i =
+Inv-loop sections order lo hi out₀ w n₀ i₀ out n i =
     (lo ≤ i) × (i ≤ hi) × (n ≡ w + (i - lo)) × (length out ≡ length out₀) × Laid w n (mapNumbers sections (slice lo i order)) out₀ out
 
 abbrev μ-loop : tie.MeasureT-loop
-μ-loop order lo hi out₀ w sections n₀ i₀ out n i = hi - i
+μ-loop sections order lo hi out₀ w n₀ i₀ out n i = hi - i
 
 loop-holds : tie.Need-loop-holds Inv-loop μ-loop
 loop-holds c =
@@ -63,7 +63,7 @@ loop-again c =
       omega arith,
       omega arith,
       rw length-set (v .3),
-      laid-next (v .4) (a .h .sections + getD js i 0) _ room (map-in (a .lo) i js from inside (λ j. a .h .sections + j)),
+      laid-next (v .4) (a .sections + getD js i 0) _ room (map-in (a .lo) i js from inside (λ j. a .sections + j)),
     )
 
 same-length : tie.Need-same-length Inv-loop μ-loop
@@ -74,7 +74,7 @@ returns c =
     let l = c .before in
     let a = l .before .args in
     let e : l .loop .i ≡ a .hi = omega arith in
-    let z : Laid (a .w) (l .loop .n) (mapNumbers (a .h .sections) (slice (a .lo) (a .hi) (now (a .order)))) (now (a .out)) (l .loop .out) = rw (← e) (l .loop .inv .4) in
+    let z : Laid (a .w) (l .loop .n) (mapNumbers (a .sections) (slice (a .lo) (a .hi) (now (a .order)))) (now (a .out)) (l .loop .out) = rw (← e) (l .loop .inv .4) in
     (z .count, z .held)
 
 pub map-numbers-spec : {M : Type 1} → statement M

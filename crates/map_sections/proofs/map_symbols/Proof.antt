@@ -18,10 +18,10 @@ use Rattle.map_sections.proofs.map_symbols.Statement.{statement}
 use Rattle.map_sections.proofs.map_symbols.Tie as tie
 
 abbrev Inv-loop : tie.InvT-loop
-Inv-loop d gap h s order lo hi i₀ i = (lo ≤ i) × (firstIn (refusalAt d gap h s) (slice lo hi order) ≡ firstIn (refusalAt d gap h s) (slice i hi order))
+Inv-loop d t v s order lo hi i₀ i = (lo ≤ i) × (firstIn (refusalAt d t v s) (slice lo hi order) ≡ firstIn (refusalAt d t v s) (slice i hi order))
 
 abbrev μ-loop : tie.MeasureT-loop
-μ-loop d gap h s order lo hi i₀ i = hi - i
+μ-loop d t v s order lo hi i₀ i = hi - i
 
 loop-holds : tie.Need-loop-holds Inv-loop μ-loop
 loop-holds c = (omega arith, refl)
@@ -46,20 +46,20 @@ returns c =
     let f = c .before .before in
     let y = f .before .symbol .result in
     let l = f .before .before .before .before in
-    let a = l .before .before .before .args in
+    let a = l .before .before .before .before .args in
     let d = now (a .d) in
-    let look = refusalAt d (a .gap) (a .h) (a .s) in
+    let look = refusalAt d (now (a .t)) (a .v) (a .s) in
     let i = l .loop .i in
-    let fault : f .map-fault .result ≡ mapFault d (a .gap) (a .h) (a .s) y = f .map-fault .ensures in
-    let n : mapFault d (a .gap) (a .h) (a .s) y ≡ 0 → ⊥ = λ e. c .before .if1 .taken (fault ∙ e) in
+    let fault : f .map-fault .result ≡ mapFault d (a .v) (a .s) y = f .map-fault .ensures in
+    let n : mapFault d (a .v) (a .s) y ≡ 0 → ⊥ = λ e. c .before .if1 .taken (fault ∙ e) in
     let at : look (getD (now (a .order)) i 0) ≡ some (record { number = f .map-fault .result; section = a .s .index; symbol = y .index; entry = 0 }) =
-    ap (refusalBy d (a .gap) (a .h) (a .s)) (sym (f .before .symbol .ensures))
-    ∙ refusal-some d (a .gap) (a .h) (a .s) y n
+    ap (refusalBy d (now (a .t)) (a .v) (a .s)) (sym (f .before .symbol .ensures))
+    ∙ refusal-some d (now (a .t)) (a .v) (a .s) y n
     ∙ rw fault in
     c .of-symbol .ensures
     ∙ sym
     (ap checkedOf
-    (firstIn-map (mapSymbolRefusal (sectionFrom d (a .gap) (a .h) (a .s))) (symbolIn d (a .gap) (a .h)) (slice (a .lo) (a .hi) (now (a .order)))
+    (firstIn-map (mapSymbolRefusal (sectionFrom d (now (a .t)) (a .v) (a .s))) (symbolIn d (now (a .t)) (a .v)) (slice (a .lo) (a .hi) (now (a .order)))
     ∙ l .loop .inv .1
     ∙ first-found look i (a .hi) (now (a .order)) _ (omega arith) (omega arith) at))
 
@@ -74,25 +74,25 @@ loop-again c =
     let f = c .before in
     let y = f .before .symbol .result in
     let l = f .before .before .before .before in
-    let a = l .before .before .before .args in
+    let a = l .before .before .before .before .args in
     let d = now (a .d) in
-    let look = refusalAt d (a .gap) (a .h) (a .s) in
+    let look = refusalAt d (now (a .t)) (a .v) (a .s) in
     let i = l .loop .i in
     let none-at : look (getD (now (a .order)) i 0) ≡ none =
-    ap (refusalBy d (a .gap) (a .h) (a .s)) (sym (f .before .symbol .ensures))
-    ∙ refusal-fine d (a .gap) (a .h) (a .s) y (sym (f .map-fault .ensures) ∙ c .if1 .left) in
+    ap (refusalBy d (now (a .t)) (a .v) (a .s)) (sym (f .before .symbol .ensures))
+    ∙ refusal-fine d (now (a .t)) (a .v) (a .s) y (sym (f .map-fault .ensures) ∙ c .if1 .left) in
     (omega arith, l .loop .inv .1 ∙ first-next look i (a .hi) (now (a .order)) (omega arith) (omega arith) none-at)
 
 returns-2 : tie.Need-returns-2 Inv-loop μ-loop
 returns-2 c =
     let l = c .before in
-    let a = l .before .before .before .args in
+    let a = l .before .before .before .before .args in
     let d = now (a .d) in
     sym
     (ap checkedOf
-    (firstIn-map (mapSymbolRefusal (sectionFrom d (a .gap) (a .h) (a .s))) (symbolIn d (a .gap) (a .h)) (slice (a .lo) (a .hi) (now (a .order)))
+    (firstIn-map (mapSymbolRefusal (sectionFrom d (now (a .t)) (a .v) (a .s))) (symbolIn d (now (a .t)) (a .v)) (slice (a .lo) (a .hi) (now (a .order)))
     ∙ l .loop .inv .1
-    ∙ first-end (refusalAt d (a .gap) (a .h) (a .s)) (l .loop .i) (a .hi) (now (a .order)) (omega arith)))
+    ∙ first-end (refusalAt d (now (a .t)) (a .v) (a .s)) (l .loop .i) (a .hi) (now (a .order)) (omega arith)))
 
 pub map-symbols-spec : {M : Type 1} → statement M
 map-symbols-spec =

@@ -25,24 +25,24 @@ size-requires c κs = search needs
 
 returns : tie.Need-returns
 returns c =
-    let a = c .before .before .before .before .args in
+    let a = c .before .before .before .before .before .args in
     let w = c .before .before .own-of in
     let e = sym (c .enum-told .given .1) ∙ w .ensures in
-    (sym (ap length (nothing-bytes (now (a .d)) (a .gap) (a .h) (a .n) e)), λ s. omega arith)
+    (sym (ap length (nothing-bytes (now (a .d)) (now (a .t)) (a .v) (a .n) e)), λ r. omega arith)
 
 returns-2 : tie.Need-returns-2
 returns-2 c =
-    let a = c .before .before .before .before .before .args in
+    let a = c .before .before .before .before .before .before .args in
     let w = c .before .before .before .own-of in
     let e = sym (c .before .len .given .1) ∙ w .ensures in
-    (sym (zeros-length (now (a .d)) (a .gap) (a .h) (a .n) _ e), λ s. omega (arith, zeros-small (now (a .d)) (a .gap) (a .h) (a .n) _ e s))
+    (sym (zeros-length (now (a .d)) (now (a .t)) (a .v) (a .n) _ e), λ r. omega (arith, zeros-small (now (a .d)) (now (a .t)) (a .v) (a .n) r _ e))
 
 returns-3 : tie.Need-returns-3
 returns-3 c =
-    let a = c .before .before .before .before .before .before .args in
+    let a = c .before .before .before .before .before .before .before .args in
     let w = c .before .before .before .before .own-of in
     let e = sym (c .before .before .e .given .1) ∙ w .ensures in
-    (c .size .ensures .0 ∙ sym (data-length (now (a .d)) (a .gap) (a .h) (a .n) _ e), λ s. omega arith)
+    (c .size .ensures .0 ∙ sym (data-length (now (a .d)) (now (a .t)) (a .v) (a .n) _ e), λ r. omega arith)
 
 pub own-length-spec : {M : Type 1} → statement M
 own-length-spec =

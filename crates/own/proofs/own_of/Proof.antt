@@ -20,24 +20,24 @@ returns : tie.Need-returns
 returns c =
     let b = c .before in
     let s = b .before .before in
-    let t = s .before in
-    let a = t .before .before .before .args in
-    section-own (now (a .d)) (a .gap) (a .h) (a .n) (s .section .result) (b .before .kind-of .result) true (t .if1 .taken) (s .section .ensures) (b .before .kind-of .ensures)
+    let u = s .before in
+    let a = u .before .before .before .before .args in
+    section-own (now (a .d)) (now (a .t)) (a .v) (a .n) (s .section .result) (b .before .kind-of .result) true (u .if1 .taken) (s .section .ensures) (b .before .kind-of .ensures)
     (sym (c .if2 .taken) ∙ b .is-bss .ensures)
 
 returns-2 : tie.Need-returns-2
 returns-2 c =
     let b = c .before .before in
     let s = b .before .before in
-    let t = s .before in
-    let a = t .before .before .before .args in
-    section-own (now (a .d)) (a .gap) (a .h) (a .n) (s .section .result) (b .before .kind-of .result) false (t .if1 .taken) (s .section .ensures) (b .before .kind-of .ensures)
+    let u = s .before in
+    let a = u .before .before .before .before .args in
+    section-own (now (a .d)) (now (a .t)) (a .v) (a .n) (s .section .result) (b .before .kind-of .result) false (u .if1 .taken) (s .section .ensures) (b .before .kind-of .ensures)
     (sym (c .before .if2 .left) ∙ b .is-bss .ensures)
 
 returns-3 : tie.Need-returns-3
 returns-3 c =
-    let a = c .before .before .before .args in
-    symbol-own (now (a .d)) (a .gap) (a .h) (a .n) (c .if1 .left)
+    let a = c .before .before .before .before .args in
+    symbol-own (now (a .d)) (now (a .t)) (a .v) (a .n) (c .if1 .left)
 
 pub own-of-spec : {M : Type 1} → statement M
 own-of-spec =

@@ -15,17 +15,17 @@ use Rattle.own.proofs.put.Statement.{statement}
 use Rattle.own.proofs.put.Tie as tie
 
 abbrev Inv-loop : tie.InvT-loop
-Inv-loop d gap h order n out₀ at o₀ k₀ out o k =
-    (k ≤ n) × (length out ≡ length out₀) × (o ≡ at + length (each (ownBytes d gap h) (take k order)))
-    × (out ≡ take at out₀ ++ (each (ownBytes d gap h) (take k order) ++ drop o out₀))
+Inv-loop d t v order n out₀ at o₀ k₀ out o k =
+    (k ≤ n) × (length out ≡ length out₀) × (o ≡ at + length (each (ownBytes d t v) (take k order)))
+    × (out ≡ take at out₀ ++ (each (ownBytes d t v) (take k order) ++ drop o out₀))
 
 abbrev μ-loop : tie.MeasureT-loop
-μ-loop d gap h order n out₀ at o₀ k₀ out o k = n - k
+μ-loop d t v order n out₀ at o₀ k₀ out o k = n - k
 
 loop-holds : tie.Need-loop-holds Inv-loop μ-loop
 unfolding each
 loop-holds c =
-    let a = c .before .before .before .args in
+    let a = c .before .before .before .before .args in
     (omega arith, refl, sym (add-zero (a .at)), put-none (a .at) (now (a .out)))
 
 mul-put-own : tie.Need-mul-put-own Inv-loop μ-loop
@@ -37,11 +37,10 @@ shared-slice-read-put-own c = search needs
 put-own-requires : tie.Need-put-own-requires Inv-loop μ-loop
 put-own-requires c κs =
     let l = c .before .before .before in
-    let b = l .before .before .before .before in
+    let b = l .before .before .before .before .before in
     let a = b .args in (
-      omega arith,
-      b .pre .2,
-      next-room (ownBytes (now (a .d)) (a .gap) (a .h)) (now (a .order)) (a .at) (l .loop .k) (l .loop .o) (l .loop .inv .2) (a .n) (length (l .loop .out)) (omega arith) (omega arith) (omega arith),
+      b .pre .1,
+      next-room (ownBytes (now (a .d)) (now (a .t)) (a .v)) (now (a .order)) (a .at) (l .loop .k) (l .loop .o) (l .loop .inv .2) (a .n) (length (l .loop .out)) (omega arith) (omega arith) (omega arith),
     )
 
 add-k : tie.Need-add-k Inv-loop μ-loop
@@ -53,9 +52,9 @@ loop-less c = search needs
 loop-again : tie.Need-loop-again Inv-loop μ-loop
 loop-again c =
     let l = c .before .before .before .before .before .before in
-    let b = l .before .before .before .before in
+    let b = l .before .before .before .before .before in
     let a = b .args in
-    let f = ownBytes (now (a .d)) (a .gap) (a .h) in
+    let f = ownBytes (now (a .d)) (now (a .t)) (a .v) in
     let p = c .before .before .put-own in
     let room = next-room f (now (a .order)) (a .at) (l .loop .k) (l .loop .o) (l .loop .inv .2) (a .n) (length (now (a .out))) (omega arith) (omega arith) (omega arith) in (
       omega arith,
@@ -71,7 +70,7 @@ same-length c = search needs
 returns : tie.Need-returns Inv-loop μ-loop
 returns c =
     let l = c .before in
-    let e : l .loop .k ≡ l .before .before .before .before .args .n = omega arith in
+    let e : l .loop .k ≡ l .before .before .before .before .before .args .n = omega arith in
     (l .loop .inv .2 ∙ rw e, l .loop .inv .3 ∙ rw e)
 
 pub put-spec : {M : Type 1} → statement M

@@ -5,9 +5,8 @@ use native.Mathlib.Omega.{arith}
 use denote.Ref.{now}
 use lib.ListN.{length}
 use Rattle.lists.specs.Slice.{put-none}
-use Rattle.records.specs.Records.{dataAt}
 use Rattle.own.specs.declared.Own.{Own}
-use Rattle.own.specs.Own.{ownOf, ownBytes, nothing-bytes, zeros-bytes, zeros-length, data-bytes, data-length, data-placed, zeros-laid}
+use Rattle.own.specs.Own.{ownOf, ownBytes, nothing-bytes, zeros-bytes, zeros-length, data-bytes, data-length, data-fits, zeros-laid}
 use borrow.Author.Needs.{needs}
 use Rattle.own.proofs.put_own.Statement.{statement}
 use Rattle.own.proofs.put_own.Tie as tie
@@ -22,10 +21,10 @@ enum-known-len : tie.Need-enum-known-len
 enum-known-len c = search needs
 
 own-zeros : (c : tie.After-known-told) →
-    let a = c .before .before .before .before .before .before .args in length (ownBytes (now (a .d)) (a .gap) (a .h) (a .n)) ≡ c .before .len .given .0 .0
+    let a = c .before .before .before .before .before .before .before .args in length (ownBytes (now (a .d)) (now (a .t)) (a .v) (a .n)) ≡ c .before .len .given .0 .0
 own-zeros c =
-    let a = c .before .before .before .before .before .before .args in
-    zeros-length (now (a .d)) (a .gap) (a .h) (a .n) (c .before .len .given .0 .0) (sym (c .before .len .given .1) ∙ c .before .before .before .own-of .ensures)
+    let a = c .before .before .before .before .before .before .before .args in
+    zeros-length (now (a .d)) (now (a .t)) (a .v) (a .n) (c .before .len .given .0 .0) (sym (c .before .len .given .1) ∙ c .before .before .before .own-of .ensures)
 
 add-end : tie.Need-add-end
 add-end c = omega (arith, own-zeros c)
@@ -48,44 +47,45 @@ enum-known-e c = search needs
 size-requires : tie.Need-size-requires
 size-requires c κs = search needs
 
-data-at-requires : tie.Need-data-at-requires
-data-at-requires c κs = search needs
+gap-requires : tie.Need-gap-requires
+gap-requires c κs = search needs
 
-size-requires-2 : tie.Need-size-requires-2
-size-requires-2 c κs = search needs
-
-add-copy-stream : tie.Need-add-copy-stream
-add-copy-stream c = search needs
+data-place-requires : tie.Need-data-place-requires
+data-place-requires c κs = search needs
 
 -- the data in hand
 own-data : (c : tie.After-known-told2) →
-    let a = c .before .before .before .before .before .before .args in
-    Own.Bytes (c .before .e .given .0 .0) ≡ ownOf (now (a .d)) (a .gap) (a .h) (a .n)
+    let a = c .before .before .before .before .before .before .before .args in
+    Own.Bytes (c .before .e .given .0 .0) ≡ ownOf (now (a .d)) (now (a .t)) (a .v) (a .n)
 own-data c = sym (c .before .e .given .1) ∙ c .before .before .before .own-of .ensures
 
 own-data-length : (c : tie.After-known-told2) →
-    let a = c .before .before .before .before .before .before .args in
-    length (ownBytes (now (a .d)) (a .gap) (a .h) (a .n)) ≡ c .before .e .given .0 .0 .length
+    let a = c .before .before .before .before .before .before .before .args in
+    length (ownBytes (now (a .d)) (now (a .t)) (a .v) (a .n)) ≡ c .before .e .given .0 .0 .length
 own-data-length c =
-    let a = c .before .before .before .before .before .before .args in
-    data-length (now (a .d)) (a .gap) (a .h) (a .n) (c .before .e .given .0 .0) (own-data c)
+    let a = c .before .before .before .before .before .before .before .args in
+    data-length (now (a .d)) (now (a .t)) (a .v) (a .n) (c .before .e .given .0 .0) (own-data c)
 
 copy-stream-requires : tie.Need-copy-stream-requires
 copy-stream-requires c κs =
     let k = c .before .before .before .before in
-    let b = k .before .before .before .before .before .before in
+    let b = k .before .before .before .before .before .before .before in
     let a = b .args in
     let x = k .before .e .given .0 .0 in
-    let e : c .before .before .data-at .result + c .before .size2 .result + c .before .before .before .size .result ≡ dataAt (a .h) + x .at + x .length = omega arith in
-    (omega arith, omega arith, rw e (data-placed (now (a .d)) (a .gap) (a .h) (a .n) x (own-data k) (b .pre .1)), omega (arith, own-data-length k))
+    let e : c .before .data-place .result + c .before .before .before .size .result ≡ a .v .at .bytes + x .at + x .length = omega arith in (
+      omega arith,
+      omega arith,
+      rw (c .before .before .gap .ensures .0, e) (data-fits (now (a .d)) (now (a .t)) (a .v) (a .n) (b .pre .0) x (own-data k) .placed),
+      omega (arith, own-data-length k),
+    )
 
 add-result : tie.Need-add-result
 add-result c = omega (arith, own-data-length (c .before .before .before .before .before .before .before))
 
 returns : tie.Need-returns
 returns c =
-    let a = c .before .before .before .before .before .args in
-    let q = nothing-bytes (now (a .d)) (a .gap) (a .h) (a .n) (sym (c .enum-told .given .1) ∙ c .before .before .own-of .ensures) in
+    let a = c .before .before .before .before .before .before .args in
+    let q = nothing-bytes (now (a .d)) (now (a .t)) (a .v) (a .n) (sym (c .enum-told .given .1) ∙ c .before .before .own-of .ensures) in
     (rw q (omega arith), rw q (put-none (a .at) (now (a .out))))
 
 same-length : tie.Need-same-length
@@ -94,12 +94,12 @@ same-length c = search needs
 returns-2 : tie.Need-returns-2
 returns-2 c =
     let k = c .before .before .before .before in
-    let a = k .before .before .before .before .before .before .args in
+    let a = k .before .before .before .before .before .before .before .args in
     let len = k .before .len .given .0 .0 in
     let z = own-zeros k in (
       omega (arith, z),
       zeros-laid (a .at) len (now (a .out)) (c .before .before .zero8 .last .0) (omega (arith, z)) (c .before .before .zero8 .ensures)
-          ∙ rw (zeros-bytes (now (a .d)) (a .gap) (a .h) (a .n) len (sym (k .before .len .given .1) ∙ k .before .before .before .own-of .ensures)),
+          ∙ rw (zeros-bytes (now (a .d)) (now (a .t)) (a .v) (a .n) len (sym (k .before .len .given .1) ∙ k .before .before .before .own-of .ensures)),
     )
 
 same-length-2 : tie.Need-same-length-2
@@ -108,12 +108,13 @@ same-length-2 c = search needs
 returns-3 : tie.Need-returns-3
 returns-3 c =
     let k = c .before .before .before .before .before .before .before in
-    let a = k .before .before .before .before .before .before .args in
+    let a = k .before .before .before .before .before .before .before .args in
     let x = k .before .e .given .0 .0 in
-    let p : c .before .before .before .before .before .data-at .result + c .before .before .before .before .size2 .result ≡ dataAt (a .h) + x .at = omega arith in (
+    let g = c .before .before .before .before .before .gap in
+    let p = c .before .before .before .before .data-place in (
       omega (arith, own-data-length k),
       c .before .before .copy-stream .ensures
-          ∙ rw (data-bytes (now (a .d)) (a .gap) (a .h) (a .n) x (own-data k), p, c .before .before .before .before .before .before .size .ensures .0),
+          ∙ rw (data-bytes (now (a .d)) (now (a .t)) (a .v) (a .n) x (own-data k), g .ensures .0, p .ensures .0, c .before .before .before .before .before .before .size .ensures .0),
     )
 
 pub put-own-spec : {M : Type 1} → statement M
@@ -130,9 +131,8 @@ put-own-spec =
     zero8-requires
     enum-known-e
     size-requires
-    data-at-requires
-    size-requires-2
-    add-copy-stream
+    gap-requires
+    data-place-requires
     copy-stream-requires
     add-result
     returns

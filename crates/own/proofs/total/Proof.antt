@@ -12,10 +12,10 @@ use Rattle.own.proofs.total.Statement.{statement}
 use Rattle.own.proofs.total.Tie as tie
 
 abbrev Inv-loop : tie.InvT-loop
-Inv-loop d gap h order n sum₀ k₀ sum k = (k ≤ n) × (sum ≤ k * 4294967296) × (sum ≡ length (each (ownBytes d gap h) (take k order)))
+Inv-loop d t v order n sum₀ k₀ sum k = (k ≤ n) × (sum ≤ k * 4294967296) × (sum ≡ length (each (ownBytes d t v) (take k order)))
 
 abbrev μ-loop : tie.MeasureT-loop
-μ-loop d gap h order n sum₀ k₀ sum k = n - k
+μ-loop d t v order n sum₀ k₀ sum k = n - k
 
 loop-holds : tie.Need-loop-holds Inv-loop μ-loop
 unfolding each
@@ -32,8 +32,8 @@ own-length-requires c κs = search needs
 
 add-sum : tie.Need-add-sum Inv-loop μ-loop
 add-sum c =
-    let a = c .before .before .before .before .before .before in
-    omega (arith, c .own-length .ensures .1 (a .pre .3))
+    let a = c .before .before .before .before .before .before .before in
+    omega (arith, c .own-length .ensures .1 (a .pre .2))
 
 add-k : tie.Need-add-k Inv-loop μ-loop
 add-k c = search needs
@@ -44,15 +44,15 @@ loop-less c = search needs
 loop-again : tie.Need-loop-again Inv-loop μ-loop
 loop-again c =
     let l = c .before .before .before in
-    let b = l .before .before .before in
+    let b = l .before .before .before .before in
     let a = b .args in
-    let g = each-longer (ownBytes (now (a .d)) (a .gap) (a .h)) (now (a .order)) 0 (l .loop .k) (omega arith) in
-    (omega arith, omega (arith, c .own-length .ensures .1 (b .pre .3)), omega (arith, g))
+    let g = each-longer (ownBytes (now (a .d)) (now (a .t)) (a .v)) (now (a .order)) 0 (l .loop .k) (omega arith) in
+    (omega arith, omega (arith, c .own-length .ensures .1 (b .pre .2)), omega (arith, g))
 
 returns : tie.Need-returns Inv-loop μ-loop
 returns c =
     let l = c .before in
-    let e : l .loop .k ≡ l .before .before .before .args .n = omega arith in
+    let e : l .loop .k ≡ l .before .before .before .before .args .n = omega arith in
     l .loop .inv .2 ∙ rw e
 
 pub total-spec : {M : Type 1} → statement M

@@ -27,17 +27,17 @@ shared-slice-read-at : tie.Need-shared-slice-read-at
 shared-slice-read-at c = search needs
 
 sub-at : tie.Need-sub-at
-sub-at c = let s = c .before .before .before .before .before .before .before in rw (c .before .place-of .ensures) (s .pre .4 .start)
+sub-at c = let s = c .before .before .before .before .before .before .before .before in rw (c .before .place-of .ensures) (s .pre .3 .start)
 
 add-at-2 : tie.Need-add-at-2
 add-at-2 c =
-    let s = c .before .before .before .before .before .before .before in
+    let s = c .before .before .before .before .before .before .before .before in
     let a = s .args in
-    let r : getD (now (a .rows)) (27 * (c .before .place-of .result - 1) + 5) 0 - a .own + a .y .address + a .len ≤ length (now (a .bytes)) = rw (c .before .place-of .ensures) (s .pre .4 .room) in
+    let r : getD (now (a .rows)) (27 * (c .before .place-of .result - 1) + 5) 0 - a .own + a .y .address + a .len ≤ length (now (a .bytes)) = rw (c .before .place-of .ensures) (s .pre .3 .room) in
     omega (arith, s .good .1 .1 .1 .1 .1 .1 .1 .1 .1 .1 .0)
 
 write-requires : tie.Need-write-requires
-write-requires c κs = let s = c .before .before .before .before .before .before .before .before in (rw (c .before .before .place-of .ensures) (s .pre .4 .room), s .pre .3)
+write-requires c κs = let s = c .before .before .before .before .before .before .before .before .before in (rw (c .before .before .place-of .ensures) (s .pre .3 .room), s .pre .2)
 
 same-length : tie.Need-same-length
 same-length c = search needs

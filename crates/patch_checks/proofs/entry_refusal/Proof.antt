@@ -23,9 +23,9 @@ of-entry-requires c κs = search needs
 
 returns : tie.Need-returns
 returns c =
-    let a = c .before .before .before .before .before .before .before .before .args in
+    let a = c .before .before .before .before .before .before .before .before .before .args in
     c .of-entry .ensures
-    ∙ ap checkedOf (sym (not-inside (now (a .d)) (a .gap) (a .h) (mapsOf (now (a .d)) (a .gap) (a .h) (now (a .maps)) (a .n)) (a .e) (patchBy (now (a .patches)) (a .x)) (sym (c .before .before .is-lent .ensures) ∙ not-true _ (c .before .if1 .taken))))
+    ∙ ap checkedOf (sym (not-inside (now (a .d)) (now (a .t)) (a .v) (mapsOf (now (a .d)) (now (a .t)) (a .v) (now (a .maps)) (a .n)) (a .e) (patchBy (now (a .patches)) (a .x)) (sym (c .before .before .is-lent .ensures) ∙ not-true _ (c .before .if1 .taken))))
 
 of-entry-requires-2 : tie.Need-of-entry-requires-2
 of-entry-requires-2 c κs = search needs
@@ -33,15 +33,15 @@ of-entry-requires-2 c κs = search needs
 returns-2 : tie.Need-returns-2
 unfolding patchBy
 returns-2 c =
-    let a = c .before .before .before .before .before .before .before .before .before .before .args in
+    let a = c .before .before .before .before .before .before .before .before .before .before .before .args in
     c .of-entry2 .ensures
-    ∙ ap checkedOf (sym (other-mark (now (a .d)) (a .gap) (a .h) (mapsOf (now (a .d)) (a .gap) (a .h) (now (a .maps)) (a .n)) (a .e) (patchBy (now (a .patches)) (a .x)) (omega arith)))
+    ∙ ap checkedOf (sym (other-mark (now (a .d)) (now (a .t)) (a .v) (mapsOf (now (a .d)) (now (a .t)) (a .v) (now (a .maps)) (a .n)) (a .e) (patchBy (now (a .patches)) (a .x)) (omega arith)))
 
-lent : (c : tie.Else1) → patchBy (now (c .before .before .before .before .before .before .before .args .patches)) (c .before .before .before .before .before .before .before .args .x) .inside ≡ true
+lent : (c : tie.Else1) → patchBy (now (c .before .before .before .before .before .before .before .before .args .patches)) (c .before .before .before .before .before .before .before .before .args .x) .inside ≡ true
 lent c = sym (c .before .is-lent .ensures) ∙ not-false _ (c .if1 .left)
 
 add-end : tie.Need-add-end
-add-end c = let a = c .before .before .before .before .before .before .before .before .before .args in omega (arith, lent-ranges (now (a .patches)) (a .x) (lent (c .before .before)) .0)
+add-end c = let a = c .before .before .before .before .before .before .before .before .before .before .args in omega (arith, lent-ranges (now (a .patches)) (a .x) (lent (c .before .before)) .0)
 
 sub-bearer-of : tie.Need-sub-bearer-of
 sub-bearer-of c = search needs
@@ -50,7 +50,7 @@ part-bearer-of-start : tie.Need-part-bearer-of-start
 part-bearer-of-start c = search needs
 
 part-bearer-of-end : tie.Need-part-bearer-of-end
-part-bearer-of-end c = let a = c .before .before .before .before .before .before .before .before .before .args in omega (arith, lent-ranges (now (a .patches)) (a .x) (lent (c .before .before)) .0)
+part-bearer-of-end c = let a = c .before .before .before .before .before .before .before .before .before .before .args in omega (arith, lent-ranges (now (a .patches)) (a .x) (lent (c .before .before)) .0)
 
 bearer-of-requires : tie.Need-bearer-of-requires
 bearer-of-requires c κs = search needs
@@ -74,25 +74,25 @@ of-entry-requires-4 : tie.Need-of-entry-requires-4
 of-entry-requires-4 c κs = search needs
 
 told : (c : tie.After-bearer-of)
-    → (let a = c .before .before .before .before .before .before .before .before .before .before .before .args in
-    let ms = mapsOf (now (a .d)) (a .gap) (a .h) (now (a .maps)) (a .n) in
-    entryRefusal (objectIn (now (a .d)) (a .gap) (a .h)) ms (a .e) (patchBy (now (a .patches)) (a .x)) ≡ faultOf (now (a .d)) (a .gap) (a .h) ms (a .e) (a .x .bytes .length) (a .x .mark) (c .bearer-of .result))
+    → (let a = c .before .before .before .before .before .before .before .before .before .before .before .before .args in
+    let ms = mapsOf (now (a .d)) (now (a .t)) (a .v) (now (a .maps)) (a .n) in
+    entryRefusal (objectIn (now (a .d)) (now (a .t)) (a .v)) ms (a .e) (patchBy (now (a .patches)) (a .x)) ≡ faultOf (now (a .d)) (now (a .t)) (a .v) ms (a .e) (a .x .bytes .length) (a .x .mark) (c .bearer-of .result))
 unfolding patchBy
 told c =
-    let a = c .before .before .before .before .before .before .before .before .before .before .before .args in
+    let a = c .before .before .before .before .before .before .before .before .before .before .before .before .args in
     let e : a .x .name .at + a .x .name .length - a .x .name .at ≡ a .x .name .length = omega arith in
-    by-bearer (now (a .d)) (a .gap) (a .h) (mapsOf (now (a .d)) (a .gap) (a .h) (now (a .maps)) (a .n)) (a .e) (patchBy (now (a .patches)) (a .x)) (lent (c .before .before .before .before)) (omega arith)
+    by-bearer (now (a .d)) (now (a .t)) (a .v) (mapsOf (now (a .d)) (now (a .t)) (a .v) (now (a .maps)) (a .n)) (a .e) (patchBy (now (a .patches)) (a .x)) (lent (c .before .before .before .before)) (omega arith)
     (c .bearer-of .result) (c .bearer-of .ensures ∙ rw e)
     ∙ rw (bytes-length (now (a .patches)) (a .x) (lent (c .before .before .before .before)))
 
 returns-3 : tie.Need-returns-3
 returns-3 c =
-    let e : eqb (c .before .before .before .before .before .before .before .before .before .before .before .before .before .before .before .before .args .x .mark) 1 ≡ true = eq-eqb (c .before .before .before .before .before .before .before .before .before .before .before .before .before .before .before .before .args .x .mark) 1 (c .before .if3 .taken) in
+    let e : eqb (c .before .before .before .before .before .before .before .before .before .before .before .before .before .before .before .before .before .args .x .mark) 1 ≡ true = eq-eqb (c .before .before .before .before .before .before .before .before .before .before .before .before .before .before .before .before .before .args .x .mark) 1 (c .before .if3 .taken) in
     c .of-entry3 .ensures ∙ sym (ap checkedOf (told (c .before .before .before .before .before)) ∙ rw (c .before .before .before .enum-told .given .1, e))
 
 returns-4 : tie.Need-returns-4
 returns-4 c =
-    let e : eqb (c .before .before .before .before .before .before .before .before .before .before .before .before .before .before .before .args .x .mark) 1 ≡ false = ne-eqb (c .before .before .before .before .before .before .before .before .before .before .before .before .before .before .before .args .x .mark) 1 (c .if3 .left) in
+    let e : eqb (c .before .before .before .before .before .before .before .before .before .before .before .before .before .before .before .before .args .x .mark) 1 ≡ false = ne-eqb (c .before .before .before .before .before .before .before .before .before .before .before .before .before .before .before .before .args .x .mark) 1 (c .if3 .left) in
     sym (ap checkedOf (told (c .before .before .before .before)) ∙ rw (c .before .before .enum-told .given .1, e))
 
 returns-5 : tie.Need-returns-5

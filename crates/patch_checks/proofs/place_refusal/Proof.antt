@@ -12,33 +12,33 @@ use Rattle.patch_checks.proofs.place_refusal.Statement.{statement}
 use Rattle.patch_checks.proofs.place_refusal.Tie as tie
 
 place-of-requires : tie.Need-place-of-requires
-place-of-requires c κs = let s = c .before .before .before in let a = s .args in (s .pre .small, s .pre .rise, place-room (now (a .d)) (a .gap) (a .h) (now (a .maps)) (a .n) (now (a .by)) (s .pre))
+place-of-requires c κs = let s = c .before .before .before .before in let a = s .args in (s .pre .readable, place-room (now (a .d)) (now (a .t)) (a .v) (now (a .maps)) (a .n) (now (a .by)) (s .pre))
 
 of-entry-requires : tie.Need-of-entry-requires
 of-entry-requires c κs = search needs
 
 returns : tie.Need-returns
 returns c =
-    let s = c .before .before .before .before .before .before in
+    let s = c .before .before .before .before .before .before .before in
     let a = s .args in
     c .of-entry .ensures
-    ∙ ap checkedOf (sym (refused-22 (now (a .d)) (a .gap) (a .h) (now (a .maps)) (a .n) (now (a .by)) (s .pre) (a .y) (a .e) (sym (c .before .if1 .taken) ∙ c .before .before .place-of .ensures)))
+    ∙ ap checkedOf (sym (refused-22 (now (a .d)) (now (a .t)) (a .v) (now (a .maps)) (a .n) (now (a .by)) (s .pre) (a .y) (a .e) (sym (c .before .if1 .taken) ∙ c .before .before .place-of .ensures)))
 
 sub-own-length : tie.Need-sub-own-length
 sub-own-length c = search needs
 
-below : (c : tie.Else1) → c .before .place-of .result - 1 < c .before .before .before .before .before .args .n
+below : (c : tie.Else1) → c .before .place-of .result - 1 < c .before .before .before .before .before .before .args .n
 below c =
-    let s = c .before .before .before .before .before in
+    let s = c .before .before .before .before .before .before in
     let a = s .args in
     let p = c .before .place-of in
-    place-below (now (a .d)) (a .gap) (a .h) (now (a .maps)) (a .n) (now (a .by)) (s .pre) (a .y) (a .e) (p .result) (p .ensures) (c .if1 .left)
+    place-below (now (a .d)) (now (a .t)) (a .v) (now (a .maps)) (a .n) (now (a .by)) (s .pre) (a .y) (a .e) (p .result) (p .ensures) (c .if1 .left)
 
 mul-own-length : tie.Need-mul-own-length
-mul-own-length c = omega (arith, below c, c .before .before .before .before .before .pre .within)
+mul-own-length c = omega (arith, below c, c .before .before .before .before .before .before .pre .within)
 
 shared-slice-read-own-length : tie.Need-shared-slice-read-own-length
-shared-slice-read-own-length c = omega (arith, below (c .before), c .before .before .before .before .before .before .pre .within)
+shared-slice-read-own-length c = omega (arith, below (c .before), c .before .before .before .before .before .before .before .pre .within)
 
 own-length-requires : tie.Need-own-length-requires
 own-length-requires c κs = search needs
@@ -50,13 +50,13 @@ of-entry-requires-2 : tie.Need-of-entry-requires-2
 of-entry-requires-2 c κs = search needs
 
 told : (c : tie.After-passes)
-    → (let a = c .before .before .before .before .before .before .before .before .args in
-    placeRefusal (mapsOf (now (a .d)) (a .gap) (a .h) (now (a .maps)) (a .n)) (a .e) (symbolFrom (now (a .d)) (a .gap) (a .h) (a .y)) ≡ ofEntry 23 (a .e) (c .passes .result))
+    → (let a = c .before .before .before .before .before .before .before .before .before .args in
+    placeRefusal (mapsOf (now (a .d)) (now (a .t)) (a .v) (now (a .maps)) (a .n)) (a .e) (symbolFrom (now (a .d)) (now (a .t)) (a .v) (a .y)) ≡ ofEntry 23 (a .e) (c .passes .result))
 told c =
-    let s = c .before .before .before .before .before .before .before .before in
+    let s = c .before .before .before .before .before .before .before .before .before in
     let a = s .args in
     let p = c .before .before .before .before .place-of in
-    by-own (now (a .d)) (a .gap) (a .h) (now (a .maps)) (a .n) (now (a .by)) (s .pre) (a .y) (a .e) (p .result) (p .ensures) (c .before .before .before .if1 .left)
+    by-own (now (a .d)) (now (a .t)) (a .v) (now (a .maps)) (a .n) (now (a .by)) (s .pre) (a .y) (a .e) (p .result) (p .ensures) (c .before .before .before .if1 .left)
     ∙ rw (c .passes .ensures, c .before .own-length .ensures .0)
 
 returns-2 : tie.Need-returns-2

@@ -18,9 +18,9 @@ of-entry-requires c κs = search needs
 returns : tie.Need-returns
 unfolding symbolFrom
 returns c =
-    let a = c .before .before .before .before .before .before .before .args in
+    let a = c .before .before .before .before .before .before .before .before .args in
     let y = c .before .before .before .symbol in
-    let n : eqb (a .length) (symbolIn (now (a .d)) (a .gap) (a .h) (a .j) .size) ≡ false = rw (← y .ensures) (ne-eqb (a .length) (y .result .size) (c .before .if1 .taken)) in
+    let n : eqb (a .length) (symbolIn (now (a .d)) (now (a .t)) (a .v) (a .j) .size) ≡ false = rw (← y .ensures) (ne-eqb (a .length) (y .result .size) (c .before .if1 .taken)) in
     rw n (c .of-entry .ensures)
 
 place-refusal-requires : tie.Need-place-refusal-requires
@@ -29,9 +29,9 @@ place-refusal-requires c κs = search needs
 returns-2 : tie.Need-returns-2
 unfolding symbolFrom
 returns-2 c =
-    let a = c .before .before .before .before .before .before .before .args in
+    let a = c .before .before .before .before .before .before .before .before .args in
     let y = c .before .before .before .symbol in
-    let n : eqb (a .length) (symbolIn (now (a .d)) (a .gap) (a .h) (a .j) .size) ≡ true = rw (← y .ensures) (eq-eqb (a .length) (y .result .size) (c .before .if1 .left)) in
+    let n : eqb (a .length) (symbolIn (now (a .d)) (now (a .t)) (a .v) (a .j) .size) ≡ true = rw (← y .ensures) (eq-eqb (a .length) (y .result .size) (c .before .if1 .left)) in
     rw (n, ← y .ensures) (c .place-refusal .ensures)
 
 pub symbol-refusal-spec : {M : Type 1} → statement M

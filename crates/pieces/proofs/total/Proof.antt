@@ -12,10 +12,10 @@ use Rattle.pieces.proofs.total.Statement.{statement}
 use Rattle.pieces.proofs.total.Tie as tie
 
 abbrev Inv-loop : tie.InvT-loop
-Inv-loop d gap h which order n sum₀ k₀ sum k = (k ≤ n) × (sum ≤ k * 4294967296) × (sum ≡ length (each (pieceOf which d gap h) (take k order)))
+Inv-loop d t v which order n sum₀ k₀ sum k = (k ≤ n) × (sum ≤ k * 4294967296) × (sum ≡ length (each (pieceOf which d t v) (take k order)))
 
 abbrev μ-loop : tie.MeasureT-loop
-μ-loop d gap h which order n sum₀ k₀ sum k = n - k
+μ-loop d t v which order n sum₀ k₀ sum k = n - k
 
 loop-holds : tie.Need-loop-holds Inv-loop μ-loop
 unfolding each
@@ -45,16 +45,16 @@ loop-less c = search needs
 loop-again : tie.Need-loop-again Inv-loop μ-loop
 loop-again c =
     let l = c .before .before .before .before in
-    let a = l .before .before .before .args in
+    let a = l .before .before .before .before .args in
     let j : ℕ = getD (now (a .order)) (l .loop .k) 0 in
-    let f = piece-length (a .which) (now (a .d)) (a .gap) (a .h) j (c .before .extent .result) (c .before .extent .ensures) in
-    let g = each-longer (pieceOf (a .which) (now (a .d)) (a .gap) (a .h)) (now (a .order)) 0 (l .loop .k) (omega arith) in
+    let f = piece-length (a .which) (now (a .d)) (now (a .t)) (a .v) j (c .before .extent .result) (c .before .extent .ensures) in
+    let g = each-longer (pieceOf (a .which) (now (a .d)) (now (a .t)) (a .v)) (now (a .order)) 0 (l .loop .k) (omega arith) in
     (omega arith, omega arith, omega (arith, f, g))
 
 returns : tie.Need-returns Inv-loop μ-loop
 returns c =
     let l = c .before in
-    let e : l .loop .k ≡ l .before .before .before .args .n = omega arith in
+    let e : l .loop .k ≡ l .before .before .before .before .args .n = omega arith in
     l .loop .inv .2 ∙ rw e
 
 pub total-spec : {M : Type 1} → statement M

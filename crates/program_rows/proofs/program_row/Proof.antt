@@ -15,23 +15,20 @@ home-requires c κs = search needs
 section-requires : tie.Need-section-requires
 section-requires c κs = search needs
 
-names-at-requires : tie.Need-names-at-requires
-names-at-requires c κs = search needs
+name-at-requires : tie.Need-name-at-requires
+name-at-requires c κs = search needs
+
+gap-requires : tie.Need-gap-requires
+gap-requires c κs = search needs
 
 size-requires : tie.Need-size-requires
 size-requires c κs = search needs
 
-add-name : tie.Need-add-name
-add-name c = search needs
-
-size-requires-2 : tie.Need-size-requires-2
-size-requires-2 c κs = search needs
-
 variant-numbers-requires : tie.Need-variant-numbers-requires
 variant-numbers-requires c κs = search needs
 
-size-requires-3 : tie.Need-size-requires-3
-size-requires-3 c κs = search needs
+size-requires-2 : tie.Need-size-requires-2
+size-requires-2 c κs = search needs
 
 wide64-requires : tie.Need-wide64-requires
 wide64-requires c κs = search needs
@@ -39,16 +36,16 @@ wide64-requires c κs = search needs
 returns : tie.Need-returns
 returns c =
     let v = c .before .before .variant-numbers in
-    let n = c .before .before .before .size2 in
-    let p = c .before .before .before .before .size in
-    let w = c .before .before .before .before .before .names-at in
+    let n = c .before .before .before .size in
+    let g = c .before .before .before .before .gap in
+    let w = c .before .before .before .before .before .name-at in
     let s = c .before .before .before .before .before .before .section in
     let o = c .before .before .before .before .before .before .before .home in
     let y = c .before .before .before .before .before .before .before .before .symbol in
-    let a = c .before .before .before .before .before .before .before .before .before .before .args in (
-      row-is (now (a .d)) (a .gap) (a .h) (a .j) (y .result) (s .result) (v .result) _ (y .ensures) (s .ensures ∙ rw (o .ensures))
-          (v .ensures ∙ rw (n .ensures .0, p .ensures .0, w .ensures .0)) (rw (c .before .size3 .ensures .0, c .wide64 .ensures .0)),
-      c .before .size3 .ensures .1,
+    let a = c .before .before .before .before .before .before .before .before .before .before .before .args in (
+      row-is (now (a .d)) (now (a .t)) (a .v) (a .j) (y .result) (s .result) (v .result) _ (y .ensures) (s .ensures ∙ rw (o .ensures))
+          (v .ensures ∙ rw (n .ensures .0, g .ensures .0, w .ensures .0)) (rw (c .before .size2 .ensures .0, c .wide64 .ensures .0)),
+      c .before .size2 .ensures .1,
     )
 
 pub program-row-spec : {M : Type 1} → statement M
@@ -58,11 +55,10 @@ program-row-spec =
     symbol-requires
     home-requires
     section-requires
-    names-at-requires
+    name-at-requires
+    gap-requires
     size-requires
-    add-name
-    size-requires-2
     variant-numbers-requires
-    size-requires-3
+    size-requires-2
     wide64-requires
     returns)

@@ -14,17 +14,17 @@ use Rattle.program_rows.proofs.put_program_rows.Statement.{statement}
 use Rattle.program_rows.proofs.put_program_rows.Tie as tie
 
 abbrev Inv-loop : tie.InvT-loop
-Inv-loop d gap h order n at out₀ place₀ k₀ out place k =
+Inv-loop d t v order n at out₀ place₀ k₀ out place k =
     (k ≤ n) × (length out ≡ length out₀) × (place ≤ at + k * 4294967296)
-    × (place ≡ at + length (each (nameOf d gap h) (take k order)))
-    × (out ≡ programRows d gap h at (take k order) ++ drop (k * 7) out₀)
+    × (place ≡ at + length (each (nameOf d t v) (take k order)))
+    × (out ≡ programRows d t v at (take k order) ++ drop (k * 7) out₀)
 
 abbrev μ-loop : tie.MeasureT-loop
-μ-loop d gap h order n at out₀ place₀ k₀ out place k = n - k
+μ-loop d t v order n at out₀ place₀ k₀ out place k = n - k
 
 loop-holds : tie.Need-loop-holds Inv-loop μ-loop
 unfolding each placed
-loop-holds c = (omega arith, refl, omega arith, sym (add-zero (c .before .before .before .args .at)), refl)
+loop-holds c = (omega arith, refl, omega arith, sym (add-zero (c .before .before .before .before .args .at)), refl)
 
 mul-program-row : tie.Need-mul-program-row Inv-loop μ-loop
 mul-program-row c = search needs
@@ -53,7 +53,7 @@ loop-less c = search needs
 loop-again : tie.Need-loop-again Inv-loop μ-loop
 loop-again c =
     let l = c .before .before .before .before .before .before .before .before in
-    let b = l .before .before .before .before in
+    let b = l .before .before .before .before .before in
     let a = b .args in
     let t = c .before .before .before .before .before .before .before .loop-test .taken in
     let r = c .before .before .before .before .before .program-row in
@@ -62,9 +62,9 @@ loop-again c =
       omega (arith, t),
       c .before .before .before .put7 .kept .0 ∙ l .loop .inv .1,
       omega (arith, l .loop .inv .2, r .ensures .1),
-      place-next (now (a .d)) (a .gap) (a .h) (now (a .order)) (a .at) k (l .loop .place) (r .result) (r .ensures .0) (l .loop .inv .3) m,
+      place-next (now (a .d)) (now (a .t)) (a .v) (now (a .order)) (a .at) k (l .loop .place) (r .result) (r .ensures .0) (l .loop .inv .3) m,
       c .before .before .before .put7 .ensures
-          ∙ rows-more (now (a .d)) (a .gap) (a .h) (now (a .order)) (a .at) k (l .loop .place) (r .result) (r .ensures .0) (l .loop .inv .3) (now (a .out)) (l .loop .out)
+          ∙ rows-more (now (a .d)) (now (a .t)) (a .v) (now (a .order)) (a .at) k (l .loop .place) (r .result) (r .ensures .0) (l .loop .inv .3) (now (a .out)) (l .loop .out)
           m (omega (arith, t, b .pre)) (l .loop .inv .4),
     )
 
@@ -74,7 +74,7 @@ same-length c = search needs
 returns : tie.Need-returns Inv-loop μ-loop
 returns c =
     let l = c .before in
-    let e : l .loop .k ≡ l .before .before .before .before .args .n = omega arith in
+    let e : l .loop .k ≡ l .before .before .before .before .before .args .n = omega arith in
     l .loop .inv .4 ∙ rw e
 
 pub put-program-rows-spec : {M : Type 1} → statement M

@@ -7,7 +7,6 @@ use native.Mathlib.Omega.{arith}
 use denote.Ref.{now}
 use borrow.Author.Needs.{needs}
 use lib.ListN.{length, take, drop}
-use Rattle.model.specs.declared.Head.{Head}
 use Rattle.model.specs.Bytes.{each}
 use Rattle.model.specs.Lent.{placed}
 use Rattle.section_rows.specs.Rows.{sectionRows, nameOf, place-next, rows-more}
@@ -15,13 +14,13 @@ use Rattle.section_rows.proofs.put_section_rows.Statement.{statement}
 use Rattle.section_rows.proofs.put_section_rows.Tie as tie
 
 abbrev Inv-loop : tie.InvT-loop
-Inv-loop d gap order n at out₀ place₀ k₀ out place k =
+Inv-loop d t v order n at out₀ place₀ k₀ out place k =
     (k ≤ n) × (length out ≡ length out₀) × (place ≤ at + k * 4294967296)
-    × ((h : Head) → place ≡ at + length (each (nameOf d gap h) (take k order)))
-    × ((h : Head) → out ≡ sectionRows d gap h at (take k order) ++ drop (k * 4) out₀)
+    × (place ≡ at + length (each (nameOf d t v) (take k order)))
+    × (out ≡ sectionRows d t v at (take k order) ++ drop (k * 4) out₀)
 
 abbrev μ-loop : tie.MeasureT-loop
-μ-loop d gap order n at out₀ place₀ k₀ out place k = n - k
+μ-loop d t v order n at out₀ place₀ k₀ out place k = n - k
 
 wide-requires : tie.Need-wide-requires Inv-loop μ-loop
 wide-requires c κs = search needs
@@ -29,8 +28,8 @@ wide-requires c κs = search needs
 loop-holds : tie.Need-loop-holds Inv-loop μ-loop
 unfolding each placed
 loop-holds c =
-    let a = c .before .before .before .before .args in
-    (omega arith, refl, omega arith, λ h. c .wide .ensures ∙ sym (add-zero (a .at)), λ h. refl)
+    let a = c .before .before .before .before .before .args in
+    (omega arith, refl, omega arith, c .wide .ensures ∙ sym (add-zero (a .at)), refl)
 
 mul-section : tie.Need-mul-section Inv-loop μ-loop
 mul-section c = search needs
@@ -65,21 +64,21 @@ loop-less c = search needs
 loop-again : tie.Need-loop-again Inv-loop μ-loop
 loop-again c =
     let l = c .before .before .before .before .before .before .before .before .before in
-    let b = l .before .before .before .before .before in
+    let b = l .before .before .before .before .before .before in
     let a = b .args in
-    let t = c .before .before .before .before .before .before .before .before .loop-test .taken in
+    let u = c .before .before .before .before .before .before .before .before .loop-test .taken in
     let s = c .before .before .before .before .before .before .section in
     let len = c .before .before .before .before .before .wide64 in
     let index = c .before .before .before .wide642 in
     let k : ℕ = l .loop .k in
-    let m : k < length (now (a .order)) = omega (arith, t, b .pre) in (
-      omega (arith, t),
+    let m : k < length (now (a .order)) = omega (arith, u, b .pre) in (
+      omega (arith, u),
       c .before .before .put4 .kept .0 ∙ l .loop .inv .1,
       omega (arith, l .loop .inv .2, len .ensures),
-      λ h. rw (len .ensures .0) (place-next (now (a .d)) (a .gap) h (now (a .order)) (a .at) k (l .loop .place) (s .result) (s .ensures) (l .loop .inv .3 h) m),
-      λ h. c .before .before .put4 .ensures
-          ∙ rows-more (now (a .d)) (a .gap) h (now (a .order)) (a .at) k (l .loop .place) (len .result) (index .result) (s .result) (now (a .out)) (l .loop .out)
-          (s .ensures) (l .loop .inv .3 h) (len .ensures .0) (index .ensures .0) m (omega (arith, t, b .pre)) (l .loop .inv .4 h),
+      rw (len .ensures .0) (place-next (now (a .d)) (now (a .t)) (a .v) (now (a .order)) (a .at) k (l .loop .place) (s .result) (s .ensures) (l .loop .inv .3) m),
+      c .before .before .put4 .ensures
+          ∙ rows-more (now (a .d)) (now (a .t)) (a .v) (now (a .order)) (a .at) k (l .loop .place) (len .result) (index .result) (s .result) (now (a .out)) (l .loop .out)
+          (s .ensures) (l .loop .inv .3) (len .ensures .0) (index .ensures .0) m (omega (arith, u, b .pre)) (l .loop .inv .4),
     )
 
 same-length : tie.Need-same-length Inv-loop μ-loop
@@ -88,8 +87,8 @@ same-length c = search needs
 returns : tie.Need-returns Inv-loop μ-loop
 returns c =
     let l = c .before in
-    let e : l .loop .k ≡ l .before .before .before .before .before .args .n = omega arith in
-    λ h. l .loop .inv .4 h ∙ rw e
+    let e : l .loop .k ≡ l .before .before .before .before .before .before .args .n = omega arith in
+    l .loop .inv .4 ∙ rw e
 
 pub put-section-rows-spec : {M : Type 1} → statement M
 put-section-rows-spec =

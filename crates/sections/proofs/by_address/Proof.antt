@@ -35,10 +35,10 @@ same-length-2 c = search needs
 
 returns : tie.Need-returns
 returns c =
-    let st = c .before .before .before .before .before .before .before .before .before .before .before .before .before .before .before .before in
+    let st = c .before .before .before .before .before .before .before .before .before .before .before .before .before .before .before .before .before in
     let a = st .args in
     c .before .before .before .before .sort .ensures
-    ∙ ap (sorted (byKey (keyOf By.SymbolAddress (now (a .d)) (a .gap) (a .h)))) (c .before .before .before .before .before .before .before .before .before .copy .ensures ∙ part-slice (a .lo) (a .hi) (now (a .order)) (st .pre .1) (st .pre .2))
+    ∙ ap (sorted (byKey (keyOf By.SymbolAddress (now (a .d)) (now (a .t)) (a .v)))) (c .before .before .before .before .before .before .before .before .before .copy .ensures ∙ part-slice (a .lo) (a .hi) (now (a .order)) (st .pre .0) (st .pre .1))
 
 pub by-address-spec : {M : Type 1} → statement M
 by-address-spec =

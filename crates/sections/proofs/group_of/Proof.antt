@@ -11,9 +11,9 @@ group-start-requires c κs = search needs
 returns : tie.Need-returns
 returns c =
     let f = c .before in
-    let st = f .before .before .before in
+    let st = f .before .before .before .before in
     let a = st .args in
-    group-none (now (a .d)) (a .gap) (a .h) (a .s) (now (a .order)) (a .from) (f .group-start .result) (st .pre .2) (st .pre .3) (f .group-start .ensures) (c .if1 .taken)
+    group-none (now (a .d)) (now (a .t)) (a .v) (a .s) (now (a .order)) (a .from) (f .group-start .result) (st .pre .1) (st .pre .2) (f .group-start .ensures) (c .if1 .taken)
 
 group-end-requires : tie.Need-group-end-requires
 group-end-requires c κs = search needs
@@ -21,9 +21,9 @@ group-end-requires c κs = search needs
 returns-2 : tie.Need-returns-2
 returns-2 c =
     let f = c .before .before in
-    let st = f .before .before .before in
+    let st = f .before .before .before .before in
     let a = st .args in
-    group-some (now (a .d)) (a .gap) (a .h) (a .s) (now (a .order)) (a .from) (f .group-start .result) (st .pre .2) (st .pre .3) (f .group-start .ensures) (c .group-end .result)
+    group-some (now (a .d)) (now (a .t)) (a .v) (a .s) (now (a .order)) (a .from) (f .group-start .result) (st .pre .1) (st .pre .2) (f .group-start .ensures) (c .group-end .result)
     (c .before .if1 .left) (c .group-end .ensures)
 
 pub group-of-spec : {M : Type 1} → statement M

@@ -48,17 +48,17 @@ same-length c = search needs
 returns : tie.Need-returns
 returns c =
     let p = c .before .before in
-    let st = p .before .before .before .before .before .before .before .before .before in
+    let st = p .before .before .before .before .before .before .before .before .before .before in
     let a = st .args in
-    kind-program (now (a .d)) (a .gap) (a .h) (a .s) (now (a .functions)) (a .w) (p .parse-programs .result) _ (sym (st .pre .7) ∙ p .before .before .enum-told .given .1)
+    kind-program (now (a .d)) (now (a .t)) (a .v) (a .s) (now (a .functions)) (a .w) (p .parse-programs .result) _ (sym (st .pre .6) ∙ p .before .before .enum-told .given .1)
     (p .parse-programs .ensures)
 
 returns-2 : tie.Need-returns-2
 returns-2 c =
-    let st = c .before .before .before .before .before .before .before .before .before in
+    let st = c .before .before .before .before .before .before .before .before .before .before in
     let a = st .args in
     rw (c .answer .ensures, c .before .parse-maps-section .ensures)
-    (kind-maps (now (a .d)) (a .gap) (a .h) (a .s) (now (a .functions)) (a .w) (sym (st .pre .7) ∙ c .before .before .enum-told2 .given .1))
+    (kind-maps (now (a .d)) (now (a .t)) (a .v) (a .s) (now (a .functions)) (a .w) (sym (st .pre .6) ∙ c .before .before .enum-told2 .given .1))
 
 same-length-2 : tie.Need-same-length-2
 same-length-2 c = search needs
@@ -72,17 +72,17 @@ same-length-4 c = search needs
 returns-3 : tie.Need-returns-3
 returns-3 c =
     let p = c .before .before .before .before .before .before in
-    let st = p .before .before .before .before .before .before .before .before .before .before .before in
+    let st = p .before .before .before .before .before .before .before .before .before .before .before .before in
     let a = st .args in
-    kind-text (now (a .d)) (a .gap) (a .h) (a .s) (now (a .functions)) (a .w) (p .parse-text-section .result) _ (sym (st .pre .7) ∙ p .before .before .before .before .enum-told3 .given .1)
+    kind-text (now (a .d)) (now (a .t)) (a .v) (a .s) (now (a .functions)) (a .w) (p .parse-text-section .result) _ (sym (st .pre .6) ∙ p .before .before .before .before .enum-told3 .given .1)
     (p .parse-text-section .ensures)
 
 returns-4 : tie.Need-returns-4
 returns-4 c =
-    let st = c .before .before .before .before .before .before .before .before .before in
+    let st = c .before .before .before .before .before .before .before .before .before .before in
     let a = st .args in
     rw (c .answer2 .ensures, c .before .of-section .ensures)
-    (kind-btf-maps (now (a .d)) (a .gap) (a .h) (a .s) (now (a .functions)) (a .w) (sym (st .pre .7) ∙ c .before .before .enum-told4 .given .1))
+    (kind-btf-maps (now (a .d)) (now (a .t)) (a .v) (a .s) (now (a .functions)) (a .w) (sym (st .pre .6) ∙ c .before .before .enum-told4 .given .1))
 
 -- the tags of the kinds that are not looked at
 abbrev others : List ℕ
@@ -90,11 +90,11 @@ others = 0 ∷ 4 ∷ 5 ∷ 6 ∷ 8 ∷ 9 ∷ 10 ∷ 11 ∷ []
 
 returns-5 : tie.Need-returns-5
 returns-5 c =
-    let st = c .before .before .before .before .before .before in
+    let st = c .before .before .before .before .before .before .before in
     let a = st .args in
-    let k = kindOf (sectionFrom (now (a .d)) (a .gap) (a .h) (a .s)) in
-    let o = rw (st .pre .7) at (c .match .keys5) in
-    kind-other (now (a .d)) (a .gap) (a .h) (a .s) (now (a .functions)) (a .w) (other-kind others Kind.Program k tt o) (other-kind others Kind.Maps k tt o)
+    let k = kindOf (sectionFrom (now (a .d)) (now (a .t)) (a .v) (a .s)) in
+    let o = rw (st .pre .6) at (c .match .keys5) in
+    kind-other (now (a .d)) (now (a .t)) (a .v) (a .s) (now (a .functions)) (a .w) (other-kind others Kind.Program k tt o) (other-kind others Kind.Maps k tt o)
     (other-kind others Kind.Text k tt o) (other-kind others Kind.BtfMaps k tt o)
 
 pub parse-kind-spec : {M : Type 1} → statement M

@@ -15,17 +15,17 @@ next-untargeted-requires c κs = search needs
 by-section-requires : tie.Need-by-section-requires
 by-section-requires c κs = search needs
 
-next-known : (c : tie.After-next-untargeted) → (let a = c .before .before .before .before .before .before .before .before .args in NextOf (now (a .d)) (a .gap) (a .h) (c .next-untargeted .last .1 .1 .1 .0))
+next-known : (c : tie.After-next-untargeted) → (let a = c .before .before .before .before .before .before .before .before .before .args in NextOf (now (a .d)) (now (a .t)) (a .v) (c .next-untargeted .last .1 .1 .1 .0))
 next-known c =
-    let st = c .before .before .before .before .before .before .before .before in
+    let st = c .before .before .before .before .before .before .before .before .before in
     let a = st .args in
-    rw (c .next-untargeted .ensures) (next-of (now (a .d)) (a .gap) (a .h) (now (a .next)) (st .pre .2))
+    rw (c .next-untargeted .ensures) (next-of (now (a .d)) (now (a .t)) (a .v) (now (a .next)) (st .pre .0))
 
 license-refusal-requires : tie.Need-license-refusal-requires
 license-refusal-requires c κs =
     let f = c .before .before .before .before .before .before .before .before .before .before in
-    let st = f .before .before .before .before .before .before .before .before in
-    (st .pre .0, next-known f, st .pre .8)
+    let st = f .before .before .before .before .before .before .before .before .before in
+    (next-known f, st .pre .5)
 
 enum-known-r : tie.Need-enum-known-r
 enum-known-r c = search needs
@@ -42,9 +42,9 @@ same-length-3 c = search needs
 returns : tie.Need-returns
 returns c =
     let f = c .before .before .before in
-    let a = f .before .before .before .before .before .before .before .before .before .before .before .before .before .before .before .before .before .before .before .args in (
+    let a = f .before .before .before .before .before .before .before .before .before .before .before .before .before .before .before .before .before .before .before .before .args in (
       f .before .before .before .before .before .before .by-section .ensures,
-      listed-refused _ _ _ _ (refused-licence (now (a .d)) (a .gap) (a .h) _ (checked-refused _ _ (sym (f .license-refusal .ensures) ∙ c .before .r .given .1))),
+      listed-refused _ _ _ _ (refused-licence (now (a .d)) (now (a .t)) (a .v) _ (checked-refused _ _ (sym (f .license-refusal .ensures) ∙ c .before .r .given .1))),
     )
 
 enum-told : tie.Need-enum-told
@@ -53,8 +53,8 @@ enum-told c = search needs
 version-refusal-requires : tie.Need-version-refusal-requires
 version-refusal-requires c κs =
     let f = c .before .before .before .before .before .before .before .before .before .before .before .before .before .before in
-    let st = f .before .before .before .before .before .before .before .before in
-    (st .pre .0, next-known f, st .pre .8)
+    let st = f .before .before .before .before .before .before .before .before .before in
+    (next-known f, st .pre .5)
 
 enum-known-r-2 : tie.Need-enum-known-r-2
 enum-known-r-2 c = search needs
@@ -72,10 +72,10 @@ returns-2 : tie.Need-returns-2
 returns-2 c =
     let v = c .before .before .before in
     let f = v .before .before .before .before in
-    let a = f .before .before .before .before .before .before .before .before .before .before .before .before .before .before .before .before .before .before .before .args in
+    let a = f .before .before .before .before .before .before .before .before .before .before .before .before .before .before .before .before .before .before .before .before .args in
     let fine = checked-fine _ (sym (f .license-refusal .ensures) ∙ v .before .before .enum-told .given .1) in (
       f .before .before .before .before .before .before .by-section .ensures,
-      listed-refused _ _ _ _ (refused-version (now (a .d)) (a .gap) (a .h) fine _ (checked-refused _ _ (sym (v .version-refusal .ensures) ∙ c .before .r2 .given .1))),
+      listed-refused _ _ _ _ (refused-version (now (a .d)) (now (a .t)) (a .v) fine _ (checked-refused _ _ (sym (v .version-refusal .ensures) ∙ c .before .r2 .given .1))),
     )
 
 enum-told-2 : tie.Need-enum-told-2
@@ -85,11 +85,11 @@ parse-sections-requires : tie.Need-parse-sections-requires
 parse-sections-requires c κs =
     let v = c .before .before .before .before .before .before .before in
     let f = v .before .before .before .before .before .before .before .before .before .before .before .before .before .before .before in
-    let st = f .before .before .before .before .before .before .before .before in
+    let st = f .before .before .before .before .before .before .before .before .before in
     let q = st .pre in
     let s = v .before .before .before .before .before .before .before .before .before .before .by-section in
     let k = s .kept .1 .1 .1 in
-    (q .0, next-known f, s .ensures, omega (arith, k .0, q .3, q .4), omega (arith, k .0, k .1 .0, q .3, q .5), omega (arith, k .0, q .3, q .6), q .7, q .8)
+    (next-known f, s .ensures, omega (arith, k .0, q .1, q .2), omega (arith, k .0, k .1 .0, q .1, q .3), omega (arith, k .0, q .1, q .4), q .5)
 
 same-length-7 : tie.Need-same-length-7
 same-length-7 c = search needs
@@ -111,10 +111,10 @@ returns-3 c =
     let p = c .before .before .before .before .before .before in
     let v = p .before .before .before .before .before .before .before .before in
     let f = v .before .before .before .before in
-    let a = f .before .before .before .before .before .before .before .before .before .before .before .before .before .before .before .before .before .before .before .args in
+    let a = f .before .before .before .before .before .before .before .before .before .before .before .before .before .before .before .before .before .before .before .before .args in
     let one = checked-fine _ (sym (f .license-refusal .ensures) ∙ v .before .before .enum-told .given .1) in
     let two = checked-fine _ (sym (v .version-refusal .ensures) ∙ p .before .before .before .before .before .before .enum-told2 .given .1) in
-    (f .before .before .before .before .before .before .by-section .ensures, rw (refused-sections (now (a .d)) (a .gap) (a .h) one two) (p .parse-sections .ensures))
+    (f .before .before .before .before .before .before .by-section .ensures, rw (refused-sections (now (a .d)) (now (a .t)) (a .v) one two) (p .parse-sections .ensures))
 
 pub parse-object-spec : {M : Type 1} → statement M
 parse-object-spec =

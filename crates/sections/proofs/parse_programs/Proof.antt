@@ -30,7 +30,7 @@ returns-2 : tie.Need-returns-2
 returns-2 c =
     let n = c .before .before .program-numbers in
     let f = c .before .before .before .before .before .before in
-    let e = f .before .before .before .before .pre .4 in
+    let e = f .before .before .before .before .before .pre .3 in
     answers-fine _ _ _ _ _ _ (checked-fine _ (sym (f .program-refusal .ensures) ∙ c .before .before .before .before .enum-told .given .1)) (rw e at (n .ensures .0)) (rw e at (n .ensures .1))
 
 pub parse-programs-spec : {M : Type 1} → statement M

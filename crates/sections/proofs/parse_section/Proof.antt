@@ -18,9 +18,9 @@ is-btf-ext-requires c κs = search needs
 returns : tie.Need-returns
 returns c =
     let b = c .before in
-    let a = b .before .before .before .before .before .before .before .before .args in
+    let a = b .before .before .before .before .before .before .before .before .before .args in
     let k = sym (b .is-btf-ext .ensures ∙ ap (isKind Kind.BtfExt) (b .before .kind-of .ensures)) in
-    section-skipped (now (a .d)) (a .gap) (a .h) (a .s) (now (a .functions)) (a .w) (k ∙ c .if1 .taken)
+    section-skipped (now (a .d)) (now (a .t)) (a .v) (a .s) (now (a .functions)) (a .w) (k ∙ c .if1 .taken)
 
 untargeted-requires : tie.Need-untargeted-requires
 untargeted-requires c κs = search needs
@@ -35,12 +35,12 @@ returns-2 : tie.Need-returns-2
 returns-2 c =
     let u = c .before .before .before in
     let b = u .before .before in
-    let st = b .before .before .before .before .before .before .before .before in
+    let st = b .before .before .before .before .before .before .before .before .before in
     let a = st .args in
     let k = sym (b .is-btf-ext .ensures ∙ ap (isKind Kind.BtfExt) (b .before .kind-of .ensures)) in
-    let r = reaches-untargeted (now (a .d)) (a .gap) (a .h) (now (a .next)) (a .s) (st .pre .7) (st .pre .8) in
+    let r = reaches-untargeted (now (a .d)) (now (a .t)) (a .v) (now (a .next)) (a .s) (st .pre .6) (st .pre .7) in
     rw (c .answer .ensures, c .before .of-section .ensures)
-    (section-untargeted (now (a .d)) (a .gap) (a .h) (a .s) (now (a .functions)) (a .w) (k ∙ u .before .if1 .left) (sym (u .untargeted .ensures ∙ r) ∙ c .before .before .if2 .taken))
+    (section-untargeted (now (a .d)) (now (a .t)) (a .v) (a .s) (now (a .functions)) (a .w) (k ∙ u .before .if1 .left) (sym (u .untargeted .ensures ∙ r) ∙ c .before .before .if2 .taken))
 
 parse-kind-requires : tie.Need-parse-kind-requires
 parse-kind-requires c κs = search needs
@@ -59,11 +59,11 @@ returns-3 c =
     let p = c .before .before .before .before .before .before in
     let u = p .before .before .before .before .before in
     let b = u .before .before in
-    let st = b .before .before .before .before .before .before .before .before in
+    let st = b .before .before .before .before .before .before .before .before .before in
     let a = st .args in
     let k = sym (b .is-btf-ext .ensures ∙ ap (isKind Kind.BtfExt) (b .before .kind-of .ensures)) in
-    let r = reaches-untargeted (now (a .d)) (a .gap) (a .h) (now (a .next)) (a .s) (st .pre .7) (st .pre .8) in
-    section-kind (now (a .d)) (a .gap) (a .h) (a .s) (now (a .functions)) (a .w) (p .parse-kind .result) _ (k ∙ u .before .if1 .left)
+    let r = reaches-untargeted (now (a .d)) (now (a .t)) (a .v) (now (a .next)) (a .s) (st .pre .6) (st .pre .7) in
+    section-kind (now (a .d)) (now (a .t)) (a .v) (a .s) (now (a .functions)) (a .w) (p .parse-kind .result) _ (k ∙ u .before .if1 .left)
     (sym (u .untargeted .ensures ∙ r) ∙ p .before .before .before .before .if2 .left) (p .parse-kind .ensures)
 
 pub parse-section-spec : {M : Type 1} → statement M

@@ -21,9 +21,9 @@ returns : tie.Need-returns
 unfolding functionNumbers
 returns c =
     let t = c .before .before .before .before .table in
-    let st = c .before .before .before .before .before .before .before .before .before .before in
+    let st = c .before .before .before .before .before .before .before .before .before .before .before in
     let a = st .args in
-    tabled (keyOf By.SymbolAddress (now (a .d)) (a .gap) (a .h)) (functionCandidates (now (a .d)) (a .gap) (a .h)) (now (a .order)) _ (a .n) (t .result) (st .pre .3) (st .pre .1) (t .ensures .1) (t .ensures .0) (t .ensures .2)
+    tabled (keyOf By.SymbolAddress (now (a .d)) (now (a .t)) (a .v)) (functionCandidates (now (a .d)) (now (a .t)) (a .v)) (now (a .order)) _ (a .n) (t .result) (st .pre .2) (st .pre .0) (t .ensures .1) (t .ensures .0) (t .ensures .2)
 
 pub function-table-spec : {M : Type 1} → statement M
 function-table-spec = tie.close (tie.spec table-requires same-length same-length-2 returns)

@@ -15,16 +15,16 @@ use Rattle.tables.proofs.list_maps.Statement.{statement}
 use Rattle.tables.proofs.list_maps.Tie as tie
 
 abbrev Inv-loop : tie.InvT-loop
-Inv-loop d gap h symbols out₀ end i₀ from₀ n₀ out i from n =
-    (i ≤ end) × (n ≤ i + from) × (length out ≡ length out₀) × Reached d gap h symbols i from × Candidates (rows (mapsFrom d gap h) i) out₀ n out
+Inv-loop d t v symbols out₀ end i₀ from₀ n₀ out i from n =
+    (i ≤ end) × (n ≤ i + from) × (length out ≡ length out₀) × Reached d t v symbols i from × Candidates (rows (mapsFrom d t v) i) out₀ n out
 
 abbrev μ-loop : tie.MeasureT-loop
-μ-loop d gap h symbols out₀ end i₀ from₀ n₀ out i from n = end - i
+μ-loop d t v symbols out₀ end i₀ from₀ n₀ out i from n = end - i
 
 loop-holds : tie.Need-loop-holds Inv-loop μ-loop
 loop-holds c =
-    let a = c .before .before .before .args in
-    (omega arith, omega arith, refl, reached-start (now (a .d)) (a .gap) (a .h) (now (a .symbols)), candidates-none (mapsFrom (now (a .d)) (a .gap) (a .h)) (now (a .out)))
+    let a = c .before .before .before .before .args in
+    (omega arith, omega arith, refl, reached-start (now (a .d)) (now (a .t)) (a .v) (now (a .symbols)), candidates-none (mapsFrom (now (a .d)) (now (a .t)) (a .v)) (now (a .out)))
 
 section-requires : tie.Need-section-requires Inv-loop μ-loop
 section-requires c κs = search needs
@@ -32,20 +32,20 @@ section-requires c κs = search needs
 group-of-requires : tie.Need-group-of-requires Inv-loop μ-loop
 group-of-requires c κs =
     let l = c .before .before in
-    let st = l .before .before .before .before in
+    let st = l .before .before .before .before .before in
     let g = l .loop .inv .3 in
-    (st .pre .0, g .within, st .pre .1, rw (c .section .ensures) (g .passed (c .before .loop-test .taken)))
+    (g .within, st .pre .0, rw (c .section .ensures) (g .passed (c .before .loop-test .taken)))
 
 section-maps-requires : tie.Need-section-maps-requires Inv-loop μ-loop
 section-maps-requires c κs =
     let f = c .before in
     let l = f .before .before .before in
-    let st = l .before .before .before .before in
+    let st = l .before .before .before .before .before in
     let v = l .loop .inv in
     let g = f .group-of .ensures in
     let t = f .before .before .loop-test .taken in
-    let y = all-symbols (now (st .args .d)) (st .args .gap) (st .args .h) (now (st .args .symbols)) (st .pre .1) in
-    (st .pre .0, g .upward, g .within, omega (arith, t, v .1, v .2, g .after, g .upward, g .within, y, st .pre .2), g .group, st .pre .4)
+    let y = all-symbols (now (st .args .d)) (now (st .args .t)) (st .args .v) (now (st .args .symbols)) (st .pre .0) in
+    (g .upward, g .within, omega (arith, t, v .1, v .2, g .after, g .upward, g .within, y, st .pre .1), g .group, omega (arith, st .pre .2 .few-sections, st .pre .2 .few-symbols))
 
 add-i : tie.Need-add-i Inv-loop μ-loop
 add-i c =
@@ -59,27 +59,27 @@ loop-again c =
     let p = c .before .before in
     let f = p .before .before in
     let l = f .before .before .before in
-    let st = l .before .before .before .before in
+    let st = l .before .before .before .before .before in
     let a = st .args in
     let v = l .loop .inv in
     let i = l .loop .i in
     let lo = f .group-of .result .lo in
     let hi = f .group-of .result .hi in
-    let xs = mapsFrom (now (a .d)) (a .gap) (a .h) i in
+    let xs = mapsFrom (now (a .d)) (now (a .t)) (a .v) i in
     let s = f .before .section .ensures in
-    let t : i < a .h .sections = f .before .before .loop-test .taken in
+    let t : i < a .v .sections = f .before .before .loop-test .taken in
     let g = rw s at (f .group-of .ensures) in
-    let y = all-symbols (now (a .d)) (a .gap) (a .h) (now (a .symbols)) (st .pre .1) in
+    let y = all-symbols (now (a .d)) (now (a .t)) (a .v) (now (a .symbols)) (st .pre .0) in
     let k = p .section-maps .kept .1 .1 .1 .1 .1 .1 .1 .1 .0 in
     let z : Laid (l .loop .n) (p .section-maps .result) xs (l .loop .out) (p .section-maps .last .1 .1 .1 .1 .1 .1 .1 .1 .0) =
-    rw (maps-by (now (a .d)) (a .gap) (a .h) i) (rw s at (p .section-maps .ensures)) in
-    let few : length xs ≤ 1 + (hi - lo) = rw (maps-by (now (a .d)) (a .gap) (a .h) i) (maps-few (now (a .d)) (a .gap) (a .h) _ (now (a .symbols)) (l .loop .from) lo hi g i) in
-    let room : l .loop .n ≤ length (now (a .out)) = omega (arith, t, v .1, v .3 .within, y, st .pre .2) in (
+    rw (maps-by (now (a .d)) (now (a .t)) (a .v) i) (rw s at (p .section-maps .ensures)) in
+    let few : length xs ≤ 1 + (hi - lo) = rw (maps-by (now (a .d)) (now (a .t)) (a .v) i) (maps-few (now (a .d)) (now (a .t)) (a .v) _ (now (a .symbols)) (l .loop .from) lo hi g i) in
+    let room : l .loop .n ≤ length (now (a .out)) = omega (arith, t, v .1, v .3 .within, y, st .pre .1) in (
       omega (arith, t),
       omega (arith, v .1, few, z .count, g .after, g .upward),
       k ∙ v .2,
-      reached-next (now (a .d)) (a .gap) (a .h) (now (a .symbols)) i (l .loop .from) lo hi (st .pre .3) g,
-      candidates-next (mapsFrom (now (a .d)) (a .gap) (a .h)) (now (a .out)) (l .loop .out) _ i (l .loop .n) _ (v .4) z room (v .2) k,
+      reached-next (now (a .d)) (now (a .t)) (a .v) (now (a .symbols)) i (l .loop .from) lo hi (st .pre .2 .sections-rise) g,
+      candidates-next (mapsFrom (now (a .d)) (now (a .t)) (a .v)) (now (a .out)) (l .loop .out) _ i (l .loop .n) _ (v .4) z room (v .2) k,
     )
 
 same-length : tie.Need-same-length Inv-loop μ-loop
@@ -89,12 +89,12 @@ returns : tie.Need-returns Inv-loop μ-loop
 unfolding mapCandidates
 returns c =
     let l = c .before in
-    let st = l .before .before .before .before in
+    let st = l .before .before .before .before .before in
     let a = st .args in
     let v = l .loop .inv in
-    let e : l .loop .i ≡ a .h .sections = omega (arith, v .0, c .loop-test .left) in
-    let k = ap (rows (mapsFrom (now (a .d)) (a .gap) (a .h))) e in
-    let y = all-symbols (now (a .d)) (a .gap) (a .h) (now (a .symbols)) (st .pre .1) in
+    let e : l .loop .i ≡ a .v .sections = omega (arith, v .0, c .loop-test .left) in
+    let k = ap (rows (mapsFrom (now (a .d)) (now (a .t)) (a .v))) e in
+    let y = all-symbols (now (a .d)) (now (a .t)) (a .v) (now (a .symbols)) (st .pre .0) in
     (omega (arith, v .0, v .1, v .3 .within, y), rw k at (v .4))
 
 pub list-maps-spec : {M : Type 1} → statement M

@@ -18,8 +18,8 @@ map-table-requires c κs =
     let f = c .before .before .before .before .before .before in
     let p = f .before .before .before .before .before .before .before in
     let s = p .before .before .before .before .before .before .before in
-    let q = s .before .before .before .before .before .before .before .before .before .before .pre in
-    (q .0, q .1, q .4, omega (arith, f .function-table .kept .1 .1 .1 .1 .0, p .program-table .kept .1 .1 .1 .1 .1 .0, s .section-table .kept .1 .1 .1 .1 .0, q .5), q .6, q .7)
+    let q = s .before .before .before .before .before .before .before .before .before .before .before .pre in
+    (q .0, q .3, omega (arith, f .function-table .kept .1 .1 .1 .1 .0, p .program-table .kept .1 .1 .1 .1 .1 .0, s .section-table .kept .1 .1 .1 .1 .0, q .4), q .5)
 
 same-length : tie.Need-same-length
 same-length c = search needs

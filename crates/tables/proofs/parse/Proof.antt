@@ -43,14 +43,14 @@ part-parse-object-end-3 c = search needs
 parse-object-requires : tie.Need-parse-object-requires
 parse-object-requires c κs =
     let z = c .before .before .before .before .before in
-    let st = z .before .before .before .before .before .before .before .before in
+    let st = z .before .before .before .before .before .before .before .before .before in
     let a = st .args in
     let q = st .pre in
     let y = z .size .result in
-    let e : y ≡ a .h .symbols = z .size .ensures .0 in
-    let few : a .h .symbols ≤ length (now (a .tmp)) = omega (arith, q .8) in
-    let f = lent-length (now (a .functions)) y (a .h .symbols) e (q .6) in
-    (q .0, q .2, q .5, lent-length (now (a .symbols)) y (a .h .symbols) e (q .9), omega (arith, q .7), lent-length (now (a .tmp)) y (a .h .symbols) e few, omega (arith, f), q .10, q .11)
+    let e : y ≡ a .v .symbols = z .size .ensures .0 in
+    let few : a .v .symbols ≤ length (now (a .tmp)) = omega (arith, q .5) in
+    let f = lent-length (now (a .functions)) y (a .v .symbols) e (q .3) in
+    (q .2, lent-length (now (a .symbols)) y (a .v .symbols) e (q .6), omega (arith, q .4), lent-length (now (a .tmp)) y (a .v .symbols) e few, omega (arith, f), q .7)
 
 enum-known-parsed : tie.Need-enum-known-parsed
 enum-known-parsed c = search needs
@@ -71,31 +71,29 @@ number-tables-requires : tie.Need-number-tables-requires
 number-tables-requires c κs =
     let p = c .before .before .before .before .before .before .before .before .before .before .before .before .before .before .before .before .before .before .before .before in
     let z = p .before .before .before .before .before .before in
-    let st = z .before .before .before .before .before .before .before .before in
+    let st = z .before .before .before .before .before .before .before .before .before in
     let a = st .args in
     let q = st .pre in
     let y = z .size .result in
-    let Y = a .h .symbols in
+    let Y = a .v .symbols in
     let e : y ≡ Y = z .size .ensures .0 in
-    let few : Y ≤ length (now (a .tmp)) = omega (arith, q .8) in
+    let few : Y ≤ length (now (a .tmp)) = omega (arith, q .5) in
     let x = p .parse-object .last .1 .1 .1 .1 .0 in
     let t = p .parse-object .last .1 .1 .1 .1 .1 .1 .0 in
     let f = p .parse-object .last .1 .1 .1 .1 .1 .1 .1 .0 in
     let k = p .parse-object .kept .1 .1 .1 in
-    let lx : length x ≡ Y = k .1 .0 ∙ lent-length (now (a .symbols)) y Y e (q .9) in
+    let lx : length x ≡ Y = k .1 .0 ∙ lent-length (now (a .symbols)) y Y e (q .6) in
     let lt : length t ≡ Y = k .1 .1 .1 .0 ∙ lent-length (now (a .tmp)) y Y e few in
-    let lf : length f ≡ Y = k .1 .1 .1 .1 .0 ∙ lent-length (now (a .functions)) y Y e (q .6) in
-    let tmp : a .h .sections + Y ≤ length (t ++ drop (y - 0) (now (a .tmp))) = rw (length-append, length-drop) (omega (arith, lt, e, q .8)) in
+    let lf : length f ≡ Y = k .1 .1 .1 .1 .0 ∙ lent-length (now (a .functions)) y Y e (q .3) in
+    let tmp : a .v .sections + Y ≤ length (t ++ drop (y - 0) (now (a .tmp))) = rw (length-append, length-drop) (omega (arith, lt, e, q .5)) in
     let fun : Y ≤ length (f ++ drop (y - 0) (now (a .functions))) = rw length-append (omega (arith, lf)) in
     let n = pass-numbers (p .parse-object .ensures .1) _ (drop (y - 0) (now (a .functions))) (c .before .before .before .before .before .before .before .before .parsed2 .given .1) in (
-      q .0,
       lent-back x (drop (y - 0) (now (a .symbols))) y Y e lx ∙ p .parse-object .ensures .0,
-      q .3,
-      omega (arith, k .0, q .4),
-      omega (arith, k .1 .1 .0, q .7),
+      q .0,
+      omega (arith, k .0, q .1),
+      omega (arith, k .1 .1 .0, q .4),
       tmp,
-      q .10,
-      omega (arith, q .1, q .2),
+      q .7,
       omega (arith, n .0, lf),
       fun,
       n .1,
@@ -119,8 +117,8 @@ same-length-5 c = search needs
 returns : tie.Need-returns
 returns c =
     let p = c .before .before .before .before .before .before .before .before .before .before .before .before .before in
-    let a = p .before .before .before .before .before .before .before .before .before .before .before .before .before .before .args in
-    parsed-refused (now (a .d)) (a .gap) (a .h) _ _ _ _ _ (pass-refused (p .parse-object .ensures .1) _ (c .before .parsed .given .1))
+    let a = p .before .before .before .before .before .before .before .before .before .before .before .before .before .before .before .args in
+    parsed-refused (now (a .d)) (now (a .t)) (a .v) _ _ _ _ _ (pass-refused (p .parse-object .ensures .1) _ (c .before .parsed .given .1))
 
 same-length-6 : tie.Need-same-length-6
 same-length-6 c = search needs
@@ -144,8 +142,8 @@ returns-2 : tie.Need-returns-2
 returns-2 c =
     let t = c .before .before .before .before .before .before .before .before .before .before in
     let p = t .before .before .before .before .before .before .before .before .before .before .before .before .before .before .before .before .before .before .before .before .before in
-    let a = p .before .before .before .before .before .before .before .before .before .before .before .before .before .before .args in
-    parsed-numbers (now (a .d)) (a .gap) (a .h) _ _ _ _ (t .number-tables .result) (pass-fine (p .parse-object .ensures .1) _ (t .before .before .before .before .before .before .before .before .before .parsed2 .given .1) .0) (t .number-tables .ensures .0) (t .number-tables .ensures .1)
+    let a = p .before .before .before .before .before .before .before .before .before .before .before .before .before .before .before .args in
+    parsed-numbers (now (a .d)) (now (a .t)) (a .v) _ _ _ _ (t .number-tables .result) (pass-fine (p .parse-object .ensures .1) _ (t .before .before .before .before .before .before .before .before .before .parsed2 .given .1) .0) (t .number-tables .ensures .0) (t .number-tables .ensures .1)
 
 pub parse-spec : {M : Type 1} → statement M
 parse-spec =

@@ -28,19 +28,19 @@ returns : tie.Need-returns
 returns c =
     let n = c .before .before .program-numbers in
     let f = c .before .before .before .before .before .before in
-    let st = f .before .before .before .before in
+    let st = f .before .before .before .before .before in
     let a = st .args in
-    rw (programs-listed (now (a .d)) (a .gap) (a .h) (a .s) (sym (f .kind-of .ensures) ∙ c .before .before .before .before .enum-told .given .1), ← st .pre .4)
+    rw (programs-listed (now (a .d)) (now (a .t)) (a .v) (a .s) (sym (f .kind-of .ensures) ∙ c .before .before .before .before .enum-told .given .1), ← st .pre .3)
     (record { count = n .ensures .0; held = n .ensures .1 })
 
 returns-2 : tie.Need-returns-2
 returns-2 c =
     let f = c .before in
-    let a = f .before .before .before .before .args in
-    let s = kindOf (sectionFrom (now (a .d)) (a .gap) (a .h) (a .s)) in
+    let a = f .before .before .before .before .before .args in
+    let s = kindOf (sectionFrom (now (a .d)) (now (a .t)) (a .v) (a .s)) in
     let k = rw (f .kind-of .ensures) at (c .match .keys2) in
     laid-none (a .w) _ (now (a .out))
-    (programs-none (now (a .d)) (a .gap) (a .h) (a .s) (other-kind (0 ∷ 1 ∷ 2 ∷ 4 ∷ 5 ∷ 6 ∷ 7 ∷ 8 ∷ 9 ∷ 10 ∷ 11 ∷ []) Kind.Program s tt k))
+    (programs-none (now (a .d)) (now (a .t)) (a .v) (a .s) (other-kind (0 ∷ 1 ∷ 2 ∷ 4 ∷ 5 ∷ 6 ∷ 7 ∷ 8 ∷ 9 ∷ 10 ∷ 11 ∷ []) Kind.Program s tt k))
 
 pub section-programs-spec : {M : Type 1} → statement M
 section-programs-spec =

@@ -1,7 +1,7 @@
 -- `text::parse_text_section` meets its contract: 11 where the pass finds a number, else what the walk answers.
 use mathlib.Core.Path.{_≡_, _∙_}
 use denote.Ref.{now}
-use Rattle.records.specs.Records.{symbolAt}
+use Rattle.records.specs.View.{symbolAt}
 use Rattle.text.specs.Parsed.{refusal, parsed-conflict, parsed-walk}
 use borrow.Author.Needs.{needs}
 use Rattle.text.proofs.parse_text_section.Statement.{statement}
@@ -28,13 +28,13 @@ walk-requires c κs = search needs
 returns : tie.Need-returns
 returns c =
     let f = c .before .before .before .before .before in
-    let st = f .before .before .before .before in
+    let st = f .before .before .before .before .before in
     let a = st .args in
     let j = c .before .before .before .j in
     let y = c .before .symbol in
-    let e : c .refused .result ≡ refusal 11 (a .s .index) (symbolAt (now (a .d)) (a .gap) (a .h) (j .given .0 .0) .index) = c .refused .ensures ∙ rw (y .ensures) in
+    let e : c .refused .result ≡ refusal 11 (a .s .index) (symbolAt (now (a .d)) (now (a .t)) (a .v) (j .given .0 .0) .index) = c .refused .ensures ∙ rw (y .ensures) in
     rw e
-    (parsed-conflict (now (a .d)) (a .gap) (a .h) (a .s) (now (a .order)) (a .lo) (a .hi) (st .pre .1) (f .symbol-table-conflict .result) (now (a .out)) (a .w) (j .given .0 .0)
+    (parsed-conflict (now (a .d)) (now (a .t)) (a .v) (a .s) (now (a .order)) (a .lo) (a .hi) (st .pre .1) (f .symbol-table-conflict .result) (now (a .out)) (a .w) (j .given .0 .0)
     (f .symbol-table-conflict .ensures) (j .given .1))
 
 same-length : tie.Need-same-length
@@ -45,9 +45,9 @@ returns-2 c =
     let w = c .before .before in
     let n = w .before .before in
     let f = n .before .before in
-    let st = f .before .before .before .before in
+    let st = f .before .before .before .before .before in
     let a = st .args in
-    parsed-walk (now (a .d)) (a .gap) (a .h) (a .s) (now (a .order)) (a .lo) (a .hi) (st .pre .1) (f .symbol-table-conflict .result) (now (a .out)) (a .w) (w .walk .result) (w .walk .last .1 .1 .1 .1 .1 .1 .1 .0)
+    parsed-walk (now (a .d)) (now (a .t)) (a .v) (a .s) (now (a .order)) (a .lo) (a .hi) (st .pre .1) (f .symbol-table-conflict .result) (now (a .out)) (a .w) (w .walk .result) (w .walk .last .1 .1 .1 .1 .1 .1 .1 .0)
     (f .symbol-table-conflict .ensures) (n .enum-told .given .1) (w .walk .ensures)
 
 pub parse-text-section-spec : {M : Type 1} → statement M

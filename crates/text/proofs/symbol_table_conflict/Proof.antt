@@ -12,16 +12,16 @@ use Rattle.text.proofs.symbol_table_conflict.Statement.{statement}
 use Rattle.text.proofs.symbol_table_conflict.Tie as tie
 
 abbrev Inv-loop : tie.InvT-loop
-Inv-loop d gap h order lo hi a₀ k₀ a k =
-    (k ≤ hi) × (conflictOf (leastAgain (addressIn d gap h) (textGroup d gap h order lo hi)) ≡ answer (addressIn d gap h) a (textGroup d gap h order k hi))
+Inv-loop d t v order lo hi a₀ k₀ a k =
+    (k ≤ hi) × (conflictOf (leastAgain (addressIn d t v) (textGroup d t v order lo hi)) ≡ answer (addressIn d t v) a (textGroup d t v order k hi))
 
 abbrev μ-loop : tie.MeasureT-loop
-μ-loop d gap h order lo hi a₀ k₀ a k = hi - k
+μ-loop d t v order lo hi a₀ k₀ a k = hi - k
 
 loop-holds : tie.Need-loop-holds Inv-loop μ-loop
 loop-holds c =
-    let a = c .before .before .args in
-    (omega arith, answer-first (addressIn (now (a .d)) (a .gap) (a .h)) (textGroup (now (a .d)) (a .gap) (a .h) (now (a .order)) (a .lo) (a .hi)))
+    let a = c .before .before .before .args in
+    (omega arith, answer-first (addressIn (now (a .d)) (now (a .t)) (a .v)) (textGroup (now (a .d)) (now (a .t)) (a .v) (now (a .order)) (a .lo) (a .hi)))
 
 mul-j : tie.Need-mul-j Inv-loop μ-loop
 mul-j c = search needs
@@ -44,16 +44,16 @@ loop-less c = search needs
 loop-again : tie.Need-loop-again Inv-loop μ-loop
 loop-again c =
     let l = c .before .before .before .before in
-    let a = l .before .before .before .args in
+    let a = l .before .before .before .before .args in
     let y = c .before .symbol in
     let m : againNext (l .loop .a) (getD (now (a .order)) (l .loop .k) 0) (y .result) ≡ c .next .result = sym (c .next .ensures) in
-    (omega arith, l .loop .inv .1 ∙ answer-next (now (a .d)) (a .gap) (a .h) (l .loop .a) (now (a .order)) (l .loop .k) (a .hi) (omega arith) (omega arith) ∙ rw (← y .ensures, m))
+    (omega arith, l .loop .inv .1 ∙ answer-next (now (a .d)) (now (a .t)) (a .v) (l .loop .a) (now (a .order)) (l .loop .k) (a .hi) (omega arith) (omega arith) ∙ rw (← y .ensures, m))
 
 returns : tie.Need-returns Inv-loop μ-loop
 returns c =
     let l = c .before in
-    let a = l .before .before .before .args in
-    sym (l .loop .inv .1 ∙ rw (group-end (now (a .d)) (a .gap) (a .h) (now (a .order)) (l .loop .k) (a .hi) (omega arith) (omega arith)) (answer-end (addressIn (now (a .d)) (a .gap) (a .h)) (l .loop .a)))
+    let a = l .before .before .before .before .args in
+    sym (l .loop .inv .1 ∙ rw (group-end (now (a .d)) (now (a .t)) (a .v) (now (a .order)) (l .loop .k) (a .hi) (omega arith) (omega arith)) (answer-end (addressIn (now (a .d)) (now (a .t)) (a .v)) (l .loop .a)))
 
 pub symbol-table-conflict-spec : {M : Type 1} → statement M
 symbol-table-conflict-spec =

@@ -18,21 +18,21 @@ use Rattle.text.proofs.walk.Statement.{statement}
 use Rattle.text.proofs.walk.Tie as tie
 
 abbrev Inv-loop2 : tie.InvT-loop2
-Inv-loop2 d gap h s order lo hi out w len start offset k₀ n address k =
-    (k₀ ≤ k) × (k ≤ hi) × Stands d gap h s order k hi address
+Inv-loop2 d t v s order lo hi out w len start offset k₀ n address k =
+    (k₀ ≤ k) × (k ≤ hi) × Stands d t v s order k hi address
 
 abbrev μ-loop2 : tie.MeasureT-loop2
-μ-loop2 d gap h s order lo hi out w len start offset k₀ n address k = hi - k
+μ-loop2 d t v s order lo hi out w len start offset k₀ n address k = hi - k
 
 abbrev Inv-loop : tie.InvT-loop
-Inv-loop d gap h s order lo hi out₀ w len start offset₀ k₀ n₀ out offset k n = Walking d gap h s order lo hi out₀ w offset k n out
+Inv-loop d t v s order lo hi out₀ w len start offset₀ k₀ n₀ out offset k n = Walking d t v s order lo hi out₀ w offset k n out
 
 abbrev μ-loop : tie.MeasureT-loop
-μ-loop d gap h s order lo hi out₀ w len start offset₀ k₀ n₀ out offset k n = len - offset
+μ-loop d t v s order lo hi out₀ w len start offset₀ k₀ n₀ out offset k n = len - offset
 
 -- the places' ways back to the outer loop's head, and the function's start
 abbrev start : tie.At-loop Inv-loop2 μ-loop2 Inv-loop μ-loop → tie.Start Inv-loop2 μ-loop2 Inv-loop μ-loop
-start l = l .before .before .before .before .before
+start l = l .before .before .before .before .before .before
 
 abbrev head : tie.At-loop2 Inv-loop2 μ-loop2 Inv-loop μ-loop → tie.At-loop Inv-loop2 μ-loop2 Inv-loop μ-loop
 head m = m .before .before .before
@@ -51,14 +51,14 @@ small l = omega arith
 -- 12, where no number is found
 unknown : (i : tie.In-loop Inv-loop2 μ-loop2 Inv-loop μ-loop) (r : ParsedText)
     → (let a = start (i .before) .args in
-    r ≡ ParsedText.Refused (unknownSymbol (a .s)) → numberFrom (now (a .d)) (a .gap) (a .h) (a .s) (i .before .loop .offset) ≡ none
-    → Walked (now (a .d)) (a .gap) (a .h) (a .s) (now (a .out)) (a .w) r (i .before .loop .out))
+    r ≡ ParsedText.Refused (unknownSymbol (a .s)) → numberFrom (now (a .d)) (now (a .t)) (a .v) (a .s) (i .before .loop .offset) ≡ none
+    → Walked (now (a .d)) (now (a .t)) (a .v) (a .s) (now (a .out)) (a .w) r (i .before .loop .out))
 unknown i r e q =
     let l = i .before in
     let a = start l .args in
     rw e
-    (walked-unknown (now (a .d)) (a .gap) (a .h) (a .s) (now (a .order)) (a .lo) (a .hi) (now (a .out)) (a .w) (l .loop .offset) (l .loop .k) (l .loop .n) (l .loop .out)
-    (l .loop .inv) (start l .pre .0 .3) (left i) q)
+    (walked-unknown (now (a .d)) (now (a .t)) (a .v) (a .s) (now (a .order)) (a .lo) (a .hi) (now (a .out)) (a .w) (l .loop .offset) (l .loop .k) (l .loop .n) (l .loop .out)
+    (l .loop .inv) (start l .pre .0 .2) (left i) q)
 
 -- where a record is defined text
 text : (c : tie.Then3 Inv-loop2 μ-loop2 Inv-loop μ-loop) → definedRecord (c .before .before .symbol .result) ≡ true
@@ -69,9 +69,9 @@ wide64-requires c κs = search needs
 
 loop-holds : tie.Need-loop-holds Inv-loop2 μ-loop2 Inv-loop μ-loop
 loop-holds c =
-    let a = c .before .before .before .before .args in
-    let p = c .before .before .before .before .pre in
-    walking-start (now (a .d)) (a .gap) (a .h) (a .s) (now (a .order)) (a .lo) (a .hi) (now (a .out)) (a .w) (omega arith) (p .1)
+    let a = c .before .before .before .before .before .args in
+    let p = c .before .before .before .before .before .pre in
+    walking-start (now (a .d)) (now (a .t)) (a .v) (a .s) (now (a .order)) (a .lo) (a .hi) (now (a .out)) (a .w) (omega arith) (p .1)
 
 sub-if1 : tie.Need-sub-if1 Inv-loop2 μ-loop2 Inv-loop μ-loop
 sub-if1 c = search needs
@@ -86,7 +86,7 @@ returns : tie.Need-returns Inv-loop2 μ-loop2 Inv-loop μ-loop
 returns c =
     let i = c .before .before in
     let a = start (i .before) .args in
-    unknown i (c .unknown-symbol .result) (c .unknown-symbol .ensures) (number-passed (now (a .d)) (a .gap) (a .h) (a .s) (i .before .loop .offset) (omega arith))
+    unknown i (c .unknown-symbol .result) (c .unknown-symbol .ensures) (number-passed (now (a .d)) (now (a .t)) (a .v) (a .s) (i .before .loop .offset) (omega arith))
 
 add-address : tie.Need-add-address Inv-loop2 μ-loop2 Inv-loop μ-loop
 add-address c = search needs
@@ -108,8 +108,8 @@ returns-2 c =
     let l = head m in
     let a = start l .args in
     unknown (m .before .before) (c .unknown-symbol2 .result) (c .unknown-symbol2 .ensures)
-    (number-found (now (a .d)) (a .gap) (a .h) (a .s) (l .loop .offset) none (reached (m .before))
-    (search-end (now (a .d)) (a .gap) (a .h) (a .s) (now (a .order)) (m .loop2 .k) (a .hi) (a .s .address + l .loop .offset)
+    (number-found (now (a .d)) (now (a .t)) (a .v) (a .s) (l .loop .offset) none (reached (m .before))
+    (search-end (now (a .d)) (now (a .t)) (a .v) (a .s) (now (a .order)) (m .loop2 .k) (a .hi) (a .s .address + l .loop .offset)
     (c .before .if2 .taken) (m .loop2 .inv .1) (m .loop2 .inv .2)))
 
 mul-j : tie.Need-mul-j Inv-loop2 μ-loop2 Inv-loop μ-loop
@@ -141,9 +141,9 @@ returns-3 c =
     let l = head m in
     let a = start l .args in
     unknown (m .before .before) (c .unknown-symbol3 .result) (c .unknown-symbol3 .ensures)
-    (number-found (now (a .d)) (a .gap) (a .h) (a .s) (l .loop .offset) none (reached (m .before))
-    (search-lost (now (a .d)) (a .gap) (a .h) (a .s) (now (a .order)) (m .loop2 .k) (a .hi) (a .s .address + l .loop .offset)
-    (x .before .before .before .if2 .left) (start l .pre .0 .2) (x .before .symbol .result) (x .before .symbol .ensures) (text i) (m .loop2 .inv .2) (c .before .if5 .taken)))
+    (number-found (now (a .d)) (now (a .t)) (a .v) (a .s) (l .loop .offset) none (reached (m .before))
+    (search-lost (now (a .d)) (now (a .t)) (a .v) (a .s) (now (a .order)) (m .loop2 .k) (a .hi) (a .s .address + l .loop .offset)
+    (x .before .before .before .if2 .left) (start l .pre .0 .1) (x .before .symbol .result) (x .before .symbol .ensures) (text i) (m .loop2 .inv .2) (c .before .if5 .taken)))
 
 loop2-less : tie.Need-loop2-less Inv-loop2 μ-loop2 Inv-loop μ-loop
 loop2-less c = search needs
@@ -160,8 +160,8 @@ loop2-again c =
     let more : m .loop2 .k < a .hi = x .before .before .before .if2 .left in (
       omega arith,
       omega arith,
-      search-below (now (a .d)) (a .gap) (a .h) (a .s) (now (a .order)) (m .loop2 .k) (a .hi) (a .s .address + l .loop .offset)
-          (x .before .before .before .if2 .left) (start l .pre .0 .2) (x .before .symbol .result) (x .before .symbol .ensures) (text i) (m .loop2 .inv .2) below,
+      search-below (now (a .d)) (now (a .t)) (a .v) (a .s) (now (a .order)) (m .loop2 .k) (a .hi) (a .s .address + l .loop .offset)
+          (x .before .before .before .if2 .left) (start l .pre .0 .1) (x .before .symbol .result) (x .before .symbol .ensures) (text i) (m .loop2 .inv .2) below,
     )
 
 loop2-less-2 : tie.Need-loop2-less-2 Inv-loop2 μ-loop2 Inv-loop μ-loop
@@ -177,8 +177,8 @@ loop2-again-2 c =
     let more : m .loop2 .k < a .hi = x .before .before .before .if2 .left in (
       omega arith,
       omega arith,
-      search-other (now (a .d)) (a .gap) (a .h) (a .s) (now (a .order)) (m .loop2 .k) (a .hi) (a .s .address + l .loop .offset)
-          (x .before .before .before .if2 .left) (start l .pre .0 .2) (x .before .symbol .result) (x .before .symbol .ensures) (sym (x .is-defined-text .ensures) ∙ c .if3 .left) (m .loop2 .inv .2),
+      search-other (now (a .d)) (now (a .t)) (a .v) (a .s) (now (a .order)) (m .loop2 .k) (a .hi) (a .s .address + l .loop .offset)
+          (x .before .before .before .if2 .left) (start l .pre .0 .1) (x .before .symbol .result) (x .before .symbol .ensures) (sym (x .is-defined-text .ensures) ∙ c .if3 .left) (m .loop2 .inv .2),
     )
 
 -- the number that the search ends with
@@ -186,20 +186,19 @@ abbrev seek : tie.Then4 Inv-loop2 μ-loop2 Inv-loop μ-loop → tie.At-loop2 Inv
 seek c = c .before .before .before .before .before .before .before
 
 found : (c : tie.Then4 Inv-loop2 μ-loop2 Inv-loop μ-loop)
-    → (let l = head (seek c) in let a = start l .args in numberFrom (now (a .d)) (a .gap) (a .h) (a .s) (l .loop .offset) ≡ some (getD (now (a .order)) (seek c .loop2 .k) 0))
+    → (let l = head (seek c) in let a = start l .args in numberFrom (now (a .d)) (now (a .t)) (a .v) (a .s) (l .loop .offset) ≡ some (getD (now (a .order)) (seek c .loop2 .k) 0))
 found c =
     let i = c .before .before in
     let x = i .before in
     let m = x .before .before .before .before in
     let l = head m in
     let a = start l .args in
-    number-found (now (a .d)) (a .gap) (a .h) (a .s) (l .loop .offset) (some (getD (now (a .order)) (m .loop2 .k) 0)) (reached (m .before))
-    (search-met (now (a .d)) (a .gap) (a .h) (a .s) (now (a .order)) (m .loop2 .k) (a .hi) (a .s .address + l .loop .offset)
-    (x .before .before .before .if2 .left) (start l .pre .0 .2) (x .before .symbol .result) (x .before .symbol .ensures) (text i) (m .loop2 .inv .2) (c .if4 .taken))
+    number-found (now (a .d)) (now (a .t)) (a .v) (a .s) (l .loop .offset) (some (getD (now (a .order)) (m .loop2 .k) 0)) (reached (m .before))
+    (search-met (now (a .d)) (now (a .t)) (a .v) (a .s) (now (a .order)) (m .loop2 .k) (a .hi) (a .s .address + l .loop .offset)
+    (x .before .before .before .if2 .left) (start l .pre .0 .1) (x .before .symbol .result) (x .before .symbol .ensures) (text i) (m .loop2 .inv .2) (c .if4 .taken))
 
 symbol-requires-2 : tie.Need-symbol-requires-2 Inv-loop2 μ-loop2 Inv-loop μ-loop
-symbol-requires-2 c κs =
-    start (head (c .before .before .before .before .before .before .before)) .pre .0 .0
+symbol-requires-2 c κs = search needs
 
 invalid-symbol-requires : tie.Need-invalid-symbol-requires Inv-loop2 μ-loop2 Inv-loop μ-loop
 invalid-symbol-requires c κs =
@@ -219,8 +218,8 @@ returns-4 c =
     let m = seek f in
     let l = head m in
     let a = start l .args in
-    walked-invalid (now (a .d)) (a .gap) (a .h) (a .s) (now (a .order)) (a .lo) (a .hi) (now (a .out)) (a .w) (l .loop .offset) (l .loop .k) (l .loop .n) (l .loop .out) (l .loop .inv)
-    (start l .pre .0 .3) (left (m .before .before)) (getD (now (a .order)) (m .loop2 .k) 0) _ (found f)
+    walked-invalid (now (a .d)) (now (a .t)) (a .v) (a .s) (now (a .order)) (a .lo) (a .hi) (now (a .out)) (a .w) (l .loop .offset) (l .loop .k) (l .loop .n) (l .loop .out) (l .loop .inv)
+    (start l .pre .0 .2) (left (m .before .before)) (getD (now (a .order)) (m .loop2 .k) 0) _ (found f)
     (ap (λ y. invalidSymbol (a .s) y (l .loop .offset)) (sym (v .before .symbol2 .ensures)) ∙ checked-refused _ _ (sym (v .invalid-symbol .ensures) ∙ c .before .r .given .1))
 
 enum-told : tie.Need-enum-told Inv-loop2 μ-loop2 Inv-loop μ-loop
@@ -249,7 +248,7 @@ below c =
     let long = l .loop .inv .long in
     let first = m .loop2 .inv .0 in
     let more = c .before .before .before .before .before .before .before .before .before .before .if2 .left in
-    let fits = start l .pre .0 .3 in
+    let fits = start l .pre .0 .2 in
     omega arith
 
 mul-out : tie.Need-mul-out Inv-loop2 μ-loop2 Inv-loop μ-loop
@@ -292,10 +291,10 @@ loop-again c =
     let more : m .loop2 .k < a .hi = x .before .before .before .if2 .left in
     let positive : 0 < y .result .size = sizes e .0 in
     rw (y .ensures)
-    (walking-next (now (a .d)) (a .gap) (a .h) (a .s) (now (a .order)) (a .lo) (a .hi) (now (a .out)) (a .w) (l .loop .offset) (l .loop .k) (l .loop .n) (l .loop .out) (l .loop .inv)
-    (start l .pre .0 .3) (left (m .before .before)) j (m .loop2 .k + 1) (found f) (rw (← y .ensures) (fine e)) (omega arith) (omega arith)
-    (rw (← y .ensures) (search-past (now (a .d)) (a .gap) (a .h) (a .s) (now (a .order)) (m .loop2 .k) (a .hi) (a .s .address + l .loop .offset)
-    (x .before .before .before .if2 .left) (start l .pre .0 .2) (x .before .symbol .result) (x .before .symbol .ensures) (text i) (m .loop2 .inv .2) (a .s .address + (l .loop .offset + y .result .size)) (f .if4 .taken) (omega arith))))
+    (walking-next (now (a .d)) (now (a .t)) (a .v) (a .s) (now (a .order)) (a .lo) (a .hi) (now (a .out)) (a .w) (l .loop .offset) (l .loop .k) (l .loop .n) (l .loop .out) (l .loop .inv)
+    (start l .pre .0 .2) (left (m .before .before)) j (m .loop2 .k + 1) (found f) (rw (← y .ensures) (fine e)) (omega arith) (omega arith)
+    (rw (← y .ensures) (search-past (now (a .d)) (now (a .t)) (a .v) (a .s) (now (a .order)) (m .loop2 .k) (a .hi) (a .s .address + l .loop .offset)
+    (x .before .before .before .if2 .left) (start l .pre .0 .1) (x .before .symbol .result) (x .before .symbol .ensures) (text i) (m .loop2 .inv .2) (a .s .address + (l .loop .offset + y .result .size)) (f .if4 .taken) (omega arith))))
 
 same-length-5 : tie.Need-same-length-5 Inv-loop2 μ-loop2 Inv-loop μ-loop
 same-length-5 c = search needs
@@ -304,8 +303,8 @@ returns-5 : tie.Need-returns-5 Inv-loop2 μ-loop2 Inv-loop μ-loop
 returns-5 c =
     let l = c .before in
     let a = start l .args in
-    walked-end (now (a .d)) (a .gap) (a .h) (a .s) (now (a .order)) (a .lo) (a .hi) (now (a .out)) (a .w) (l .loop .offset) (l .loop .k) (l .loop .n) (l .loop .out) (l .loop .inv)
-    (start l .pre .0 .3) (omega arith)
+    walked-end (now (a .d)) (now (a .t)) (a .v) (a .s) (now (a .order)) (a .lo) (a .hi) (now (a .out)) (a .w) (l .loop .offset) (l .loop .k) (l .loop .n) (l .loop .out) (l .loop .inv)
+    (start l .pre .0 .2) (omega arith)
 
 pub walk-spec : {M : Type 1} → statement M
 walk-spec =

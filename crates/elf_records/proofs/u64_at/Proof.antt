@@ -1,0 +1,23 @@
+-- `elf_records::u64_at` meets its contract.
+use borrow.Author.Tests.{eq-eqb, ne-eqb, le-leb, lt-leb}
+use Rattle.elf_records.specs.Elf.{numberAt}
+use borrow.Author.Needs.{needs}
+use Rattle.elf_records.proofs.u64_at.Statement.{statement}
+use Rattle.elf_records.proofs.u64_at.Tie as tie
+
+add-if1 : tie.Need-add-if1
+add-if1 c = search needs
+
+eight-in-requires : tie.Need-eight-in-requires
+eight-in-requires c κs = search needs
+
+returns : tie.Need-returns
+unfolding numberAt
+returns c = rw (le-leb _ _ (c .before .if1 .taken)) (c .eight-in .ensures)
+
+returns-2 : tie.Need-returns-2
+unfolding numberAt
+returns-2 c = rw (lt-leb _ _ (c .if1 .left))
+
+pub u64-at-spec : {M : Type 1} → statement M
+u64-at-spec = tie.close (tie.spec add-if1 eight-in-requires returns returns-2)
