@@ -24,18 +24,15 @@ static struct lent lend(size_t s, size_t p, size_t f, size_t m, size_t r, size_t
     return l;
 }
 
-__attribute__((noinline)) void measured(const uint8_t *deposit, size_t length, const struct lent *l, buncoyew_answer *a) {
+static void load(const uint8_t *deposit, size_t length, const struct lent *l, buncoyew_answer *a) {
     uint64_t no_entries[1];
     uint8_t no_patches[1];
     buncoyew_load(deposit, length, no_entries, 0, no_patches, 0, false, l->sections, l->s, l->programs, l->p, l->functions, l->f, l->maps, l->m,
         l->relocations, l->r, l->bytes, l->b, a);
 }
 
-__attribute__((noinline)) static void first(const uint8_t *deposit, size_t length, const struct lent *l, buncoyew_answer *a) {
-    uint64_t no_entries[1];
-    uint8_t no_patches[1];
-    buncoyew_load(deposit, length, no_entries, 0, no_patches, 0, false, l->sections, l->s, l->programs, l->p, l->functions, l->f, l->maps, l->m,
-        l->relocations, l->r, l->bytes, l->b, a);
+void measured(const uint8_t *deposit, size_t length, const struct lent *l, buncoyew_answer *a) {
+    load(deposit, length, l, a);
 }
 
 int main(int count, char **words) {
@@ -45,7 +42,7 @@ int main(int count, char **words) {
     size_t length = fread(deposit, 1, sizeof deposit, file), rows = length / 40;
     struct lent large = lend(rows * 4, rows * 7, rows, rows * 27, rows * 16, length * 16);
     buncoyew_answer a;
-    first(deposit, length, &large, &a);
+    load(deposit, length, &large, &a);
     if (a.number != 0) return 1;
     struct lent just = lend(a.sections * 4, a.programs * 7, a.functions, a.maps * 27, a.relocations * 4, a.bytes);
     measured(deposit, length, &just, &a);

@@ -25,7 +25,7 @@ use Rattle.pieces.specs.Inside.{Known}
 use Rattle.pieces.specs.Pieces.{pieceOf}
 use Rattle.own.specs.Own.{ownBytes}
 use Rattle.code.specs.Code.{codeAt, AllFit}
-use Rattle.tables.specs.declared.Counts.{Counts}
+use Rattle.sections.specs.declared.Counts.{Counts}
 use Rattle.bytes.specs.declared.Places.{Places}
 use Rattle.bytes.specs.Parts.{catalogue, licence-is, section-names, program-names, function-names, function-code, map-names, map-own}
 use Rattle.bytes.specs.Licence.{licence-short}

@@ -17,7 +17,7 @@ use lists::copy8;
 use object_view::View;
 use pieces::Piece;
 use pieces::copy_stream;
-use tables::Counts;
+use sections::Counts;
 
 // Where the parts begin, and where the last ends.
 pub struct Places {

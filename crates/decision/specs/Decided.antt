@@ -18,8 +18,8 @@ use Rattle.image.specs.Tables.{relocations-are, rows-of-relocations}
 use Rattle.catalogue.specs.Numbers.{relocationsFrom, sectionNumbers, programNumbers, functionNumbers, mapNumbers}
 use Rattle.bytes.specs.Held.{Held, At}
 use Rattle.bytes.specs.Parts.{catalogue}
-use Rattle.tables.specs.declared.Counts.{Counts}
-use Rattle.tables.specs.declared.Tables.{Tables}
+use Rattle.sections.specs.declared.Counts.{Counts}
+use Rattle.sections.specs.declared.Tables.{Tables}
 use Rattle.tables.specs.Parsed
 use Rattle.tables.specs.Parsed.{tablesOf, countsOf}
 use Rattle.decision.specs.declared.Room.{Room}
@@ -61,10 +61,9 @@ module _ (d t : List ℕ) (v : View) (entries lent : List ℕ) (room : Room) whe
       rows-laid w ∙ (λ j. rows-of-relocations d t v readable (a .ok) j ++ drop (x j * 4) out₀)
 
 -- the arrays that a load works in are long enough, and none is longer than the largest that there are
-pub record Scratch (v : View) (s p f m tmp order by : List ℕ) : Type 0 where
+pub record Scratch (v : View) (s p f m tmp order by next group : List ℕ) : Type 0 where
   pub sections : v .sections ≤ length s
   pub programs : v .symbols ≤ length p
-  pub untargeted : v .relocations ≤ length p
   pub functions : v .symbols ≤ length f
   pub maps : v .sections + v .symbols ≤ length m
   pub sorting : v .sections + v .symbols ≤ length tmp
@@ -72,6 +71,8 @@ pub record Scratch (v : View) (s p f m tmp order by : List ℕ) : Type 0 where
   pub symbols : v .symbols ≤ length order
   pub relocations : v .relocations ≤ length order
   pub placing : v .sections ≤ length by
+  pub untargeted : v .relocations ≤ length next
+  pub grouping : v .symbols ≤ length group
   pub most-sections : length s ≤ 69632
   pub most-programs : length p ≤ 69632
   pub most-functions : length f ≤ 65536

@@ -9,7 +9,7 @@ use lib.ListN.{length}
 use Rattle.lists.specs.Tests.{both-true}
 use Rattle.model.specs.Catalogue.{Catalogue}
 use Rattle.model.specs.Lent.{bytesOf, imageOf, fitsIn, Room as LentRoom}
-use Rattle.tables.specs.declared.Counts.{Counts}
+use Rattle.sections.specs.declared.Counts.{Counts}
 use Rattle.decision.specs.declared.Room.{Room}
 use Rattle.image.specs.Tables.{long-sections, long-programs, long-functions, long-maps, long-relocations}
 

@@ -24,9 +24,9 @@ use model::SymbolIndex;
 use object_view::View;
 use patch_checks::patch_refusal;
 use relocation_rows::put_relocation_rows;
+use sections::Counts;
+use sections::Tables;
 use stream::size;
-use tables::Counts;
-use tables::Tables;
 use view::Checked;
 
 // The lengths of what is lent: of the function table in rows, of the others in numbers, of the bytes in bytes.
@@ -196,7 +196,7 @@ fn check_numbers(
     )
 }
 
-// Numbers 4 to 24.
+// Numbers 4 to 24; tmp, order, by, next and group are worked in.
 pub fn decide(
     d: &[u8],
     t: &[u32],
@@ -211,12 +211,26 @@ pub fn decide(
     tmp: &mut [u32],
     order: &mut [u32],
     by: &mut [u32],
+    next: &mut [u32],
+    group: &mut [u32],
     relocations: &mut [u64],
 ) -> Decision
-    requires { ⌜ Readable (now d) (now t) v × Scratch v (now sections) (now programs) (now functions) (now maps) (now tmp) (now order) (now by) × (room .relocations ≡ length (now relocations)) ⌝ }
+    requires { ⌜ Readable (now d) (now t) v × Scratch v (now sections) (now programs) (now functions) (now maps) (now tmp) (now order) (now by) (now next) (now group) × (room .relocations ≡ length (now relocations)) ⌝ }
     ensures { λ r. ⌜ Decides (now (d .entry)) (now (t .entry)) v (now (entries .entry)) (now (patches .entry)) room r (now (sections .exit)) (now (programs .exit)) (now (functions .exit)) (now (maps .exit)) (now (order .exit)) (now (by .exit)) × Relocated (now (d .entry)) (now (t .entry)) v (now (entries .entry)) (now (patches .entry)) room r (now (relocations .entry)) (now (relocations .exit)) ⌝ }
 {
-    match tables::parse(d, t, v, sections, programs, functions, maps, tmp, order) {
+    match tables::parse(
+        d,
+        t,
+        v,
+        sections,
+        programs,
+        functions,
+        maps,
+        tmp,
+        order,
+        next,
+        group,
+    ) {
         Tables::Refused(r) => Decision::Refused(r),
         Tables::Numbers(n) => {
             check_numbers(

@@ -22,7 +22,7 @@ use insn::sanitize_code;
 use lists::zero8;
 use object_view::View;
 use patch::patch_map_data;
-use tables::Counts;
+use sections::Counts;
 
 // The maps' own bytes, which lie from `own` to `end`, as the patch list leaves them.
 fn patch_bytes(

@@ -95,25 +95,27 @@ pub sized-again : (room : Room) (s p m l b l₂ : List ℕ) → Sized room s p m
 sized-again room s p m l b l₂ z e = record { sections = z .sections; programs = z .programs; maps = z .maps; relocations = z .relocations ∙ sym e; bytes = z .bytes }
 
 -- the arrays that are worked in
-pub scratch-of : (v : View) (s p f m tmp order by : List ℕ) (a b c e k i : ℕ) → length s ≡ a → length p ≡ b → length m ≡ c → length tmp ≡ e → length order ≡ k → length by ≡ i
-    → length f ≡ v .symbols → v .symbols ≤ 65536 → (v .sections ≤ a) × (v .symbols ≤ b) × (v .relocations ≤ b) × (v .sections + v .symbols ≤ c) × (v .sections + v .symbols ≤ e)
-    × (v .relocations ≤ e) × (v .symbols ≤ k) × (v .relocations ≤ k) × (v .sections ≤ i) × (a ≤ 69632) × (b ≤ 69632) × (c ≤ 69632) → Scratch v s p f m tmp order by
-scratch-of v s p f m tmp order by a b c e k i la lb lc le lk li lf few w =
+pub scratch-of : (v : View) (s p f m tmp order by next group : List ℕ) (a b c e k i g h : ℕ) → length s ≡ a → length p ≡ b → length m ≡ c → length tmp ≡ e → length order ≡ k
+    → length by ≡ i → length next ≡ g → length group ≡ h → length f ≡ v .symbols → v .symbols ≤ 65536 → (v .sections ≤ a) × (v .symbols ≤ b) × (v .sections + v .symbols ≤ c)
+    × (v .sections + v .symbols ≤ e) × (v .relocations ≤ e) × (v .symbols ≤ k) × (v .relocations ≤ k) × (v .sections ≤ i) × (v .relocations ≤ g) × (v .symbols ≤ h) × (a ≤ 69632)
+    × (b ≤ 69632) × (c ≤ 69632) → Scratch v s p f m tmp order by next group
+scratch-of v s p f m tmp order by next group a b c e k i g h la lb lc le lk li lg lh lf few w =
     record {
       sections = rw la (w .0);
       programs = rw lb (w .1);
-      untargeted = rw lb (w .2);
       functions = omega arith;
-      maps = rw lc (w .3);
-      sorting = rw le (w .4);
-      sorting-relocations = rw le (w .5);
-      symbols = rw lk (w .6);
-      relocations = rw lk (w .7);
-      placing = rw li (w .8);
-      most-sections = rw la (w .9);
-      most-programs = rw lb (w .10);
+      maps = rw lc (w .2);
+      sorting = rw le (w .3);
+      sorting-relocations = rw le (w .4);
+      symbols = rw lk (w .5);
+      relocations = rw lk (w .6);
+      placing = rw li (w .7);
+      untargeted = rw lg (w .8);
+      grouping = rw lh (w .9);
+      most-sections = rw la (w .10);
+      most-programs = rw lb (w .11);
       most-functions = omega arith;
-      most-maps = rw lc (w .11);
+      most-maps = rw lc (w .12);
     }
 
 -- n numbers are enough

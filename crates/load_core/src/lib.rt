@@ -161,7 +161,7 @@ fn deliver(
     accepted(d, t, v, plan)
 }
 
-// The record numbers of sections, programs, functions and maps go into s, p, f and m; tmp, symbols and by are worked in.
+// The record numbers of sections, programs, functions and maps go into s, p, f and m; tmp, symbols, by, next and group are worked in.
 fn load_opened(
     d: &[u8],
     t: &[u32],
@@ -182,8 +182,10 @@ fn load_opened(
     tmp: &mut [u32],
     symbols: &mut [u32],
     by: &mut [u32],
+    next: &mut [u32],
+    group: &mut [u32],
 ) -> Loaded
-    requires { ⌜ Readable (now d) (now t) v × Scratch v (now s) (now p) (now f) (now m) (now tmp) (now symbols) (now by) × Sized room (now sections) (now programs) (now maps) (now relocations) (now bytes) × (room .relocations < 2 ^ 64) ⌝ }
+    requires { ⌜ Readable (now d) (now t) v × Scratch v (now s) (now p) (now f) (now m) (now tmp) (now symbols) (now by) (now next) (now group) × Sized room (now sections) (now programs) (now maps) (now relocations) (now bytes) × (room .relocations < 2 ^ 64) ⌝ }
     ensures { λ r. ⌜ Opens (now (d .entry)) (now (t .entry)) (room .functions) (outcome (roomOf room) (load (objectIn (now (d .entry)) (now (t .entry)) v) (patchesOf (now (entries .entry)) (now (patches .entry))) rewrite)) r (now (sections .exit)) (now (programs .exit)) (now (maps .exit)) (now (relocations .exit)) (now (bytes .exit)) (now (f .exit)) ⌝ }
 {
     match decide(
@@ -200,6 +202,8 @@ fn load_opened(
         tmp,
         symbols,
         by,
+        next,
+        group,
         relocations,
     ) {
         Decision::Refused(r) => refuse(r, sections, programs, maps, relocations, bytes),
@@ -244,15 +248,17 @@ fn load_small(
     bytes: &mut [u8],
     f: &mut [u32],
 ) -> Loaded
-    requires { ⌜ (v .sections + v .symbols ≤ 256) × (v .relocations ≤ 256) × Readable (now d) (now t) v × (length (now f) ≡ v .symbols) × Sized room (now sections) (now programs) (now maps) (now relocations) (now bytes) × (room .relocations < 2 ^ 64) ⌝ }
+    requires { ⌜ (v .sections + v .symbols ≤ 512) × (v .relocations ≤ 512) × Readable (now d) (now t) v × (length (now f) ≡ v .symbols) × Sized room (now sections) (now programs) (now maps) (now relocations) (now bytes) × (room .relocations < 2 ^ 64) ⌝ }
     ensures { λ r. ⌜ Opens (now (d .entry)) (now (t .entry)) (room .functions) (outcome (roomOf room) (load (objectIn (now (d .entry)) (now (t .entry)) v) (patchesOf (now (entries .entry)) (now (patches .entry))) rewrite)) r (now (sections .exit)) (now (programs .exit)) (now (maps .exit)) (now (relocations .exit)) (now (bytes .exit)) (now (f .exit)) ⌝ }
 {
-    let mut s = [0u32; 256];
-    let mut p = [0u32; 256];
-    let mut m = [0u32; 256];
-    let mut tmp = [0u32; 256];
-    let mut symbols = [0u32; 256];
-    let mut by = [0u32; 256];
+    let mut s = [0u32; 512];
+    let mut p = [0u32; 512];
+    let mut m = [0u32; 512];
+    let mut tmp = [0u32; 512];
+    let mut symbols = [0u32; 512];
+    let mut by = [0u32; 512];
+    let mut next = [0u32; 512];
+    let mut group = [0u32; 512];
     load_opened(
         d,
         t,
@@ -273,6 +279,8 @@ fn load_small(
         &mut tmp,
         &mut symbols,
         &mut by,
+        &mut next,
+        &mut group,
     )
 }
 
@@ -300,6 +308,8 @@ fn load_medium(
     let mut tmp = [0u32; 4096];
     let mut symbols = [0u32; 4096];
     let mut by = [0u32; 4096];
+    let mut next = [0u32; 4096];
+    let mut group = [0u32; 4096];
     load_opened(
         d,
         t,
@@ -320,6 +330,8 @@ fn load_medium(
         &mut tmp,
         &mut symbols,
         &mut by,
+        &mut next,
+        &mut group,
     )
 }
 
@@ -348,6 +360,8 @@ fn load_large(
     let mut tmp = [0u32; 69632];
     let mut symbols = [0u32; 65536];
     let mut by = [0u32; 4096];
+    let mut next = [0u32; 65536];
+    let mut group = [0u32; 65536];
     load_opened(
         d,
         t,
@@ -368,6 +382,8 @@ fn load_large(
         &mut tmp,
         &mut symbols,
         &mut by,
+        &mut next,
+        &mut group,
     )
 }
 
@@ -438,7 +454,7 @@ fn load_sized(
             );
         }
     } else {
-        if few(v, 256) {
+        if few(v, 512) {
             return load_small(
                 d,
                 t,

@@ -1,5 +1,7 @@
--- One section's group and answers, and the pass over all sections.
+-- One section's group and answers, what it lists, and the pass over all sections.
 pub mod Kinds
 pub mod Grouped
 pub mod Answers
+pub mod Lists
+pub mod Candidates
 pub mod Pass

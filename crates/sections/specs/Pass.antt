@@ -1,43 +1,36 @@
--- The pass over all sections: the first refusal, and the numbers of the functions of those passed.
+-- The pass over all sections: the first refusal, and the numbers that those passed list for each table.
 use mathlib.Core.Path.{_≡_, refl, sym, ap, _∙_}
-use mathlib.Core.List.{List, _++_, append-assoc}
+use mathlib.Core.List.{List, _++_}
 use mathlib.Core.Option.{Option, none, some}
 use Prim.Native.Nat.{ℕ, _+_, _-_, _<_, _≤_}
 use native.Mathlib.Omega.{arith}
-use lib.ListN.{length, take, drop, length-append, length-drop}
-use lib.Seq.{take-take, take-at, take-append-le, length-take-le}
-use Rattle.lists.specs.Tab.{tab, tab-none, rows, rows-none, rows-more}
-use Rattle.lists.specs.Tests.{not-some}
+use lib.ListN.{length, take, drop}
+use lib.Seq.{slice, length-slice, length-take-le}
+use Rattle.lists.specs.Tab.{tab, tab-none, rows}
 use Rattle.object_view.specs.declared.View.{View}
+use Rattle.model.specs.declared.EbpfSectionKind.{EbpfSectionKind as Kind}
 use Rattle.model.specs.declared.Refusal.{Refusal}
 use Rattle.model.specs.Bytes.{firstIn, orElse}
 use Rattle.model.specs.Object.{Object}
 use Rattle.model.specs.Refusals.{sectionRefusal, objectRefusal}
-use Rattle.plan.specs.Numbers.{firstIn-on, firstIn-at}
+use Rattle.model.specs.SectionKind.{kindOf}
+use Rattle.orders.specs.Sort.{sorted}
+use Rattle.plan.specs.Numbers.{upTo, firstIn-on, firstIn-at}
+use Rattle.plan.specs.SortedGroups.{bySection}
 use Rattle.records.specs.View.{sectionAt}
-use Rattle.records.specs.Readable.{SectionsRise}
-use Rattle.view.specs.View.{sectionIn, objectIn}
-use Rattle.catalogue.specs.Numbers.{functionsFrom, functionCandidates}
+use Rattle.records.specs.Readable.{Readable}
+use Rattle.view.specs.Group.{member-below}
+use Rattle.view.specs.View.{sectionIn, symbolIn, objectIn}
+use Rattle.catalogue.specs.Numbers.{sectionsFrom, programsFrom, functionsFrom, mapsFrom, sectionCandidates, programCandidates, functionCandidates, mapCandidates}
 use Rattle.first_checks.specs.LicenceVersion.{licenceRefused, versionRefused}
 use Rattle.text.specs.declared.ParsedText.{ParsedText}
-use Rattle.text.specs.Parsed.{parsedText, laid}
-use Rattle.sections.specs.Grouped.{GroupOf, Reached, reached-start, reached-next}
+use Rattle.text.specs.Parsed.{parsedText}
+use Rattle.sections.specs.declared.Counts.{Counts}
+use Rattle.sections.specs.declared.Tables.{Tables}
+use Rattle.sections.specs.Grouped.{GroupOf, Reached, reached-start, reached-next, all-symbols}
 use Rattle.sections.specs.Answers.{Answers, functionsBy, functions-by}
-
--- the answer for a refusal or none, and the numbers at the front of a list where there is none
-pub record Listed (q : Option Refusal) (ns : List ℕ) (r : ParsedText) (out : List ℕ) : Type 0 where
-  pub answer : r ≡ parsedText q (length ns)
-  pub numbers : q ≡ none → take (length ns) out ≡ ns
-
-pub listed-refused : (q : Option Refusal) (x : Refusal) (ns out : List ℕ) → q ≡ some x → Listed q ns (ParsedText.Refused x) out
-listed-refused q x ns out e = record { answer = rw e; numbers = λ f. not-some x (sym e ∙ f) }
-
--- numbers laid into a list of n elements end inside it
-pub laid-inside : (t ns out : List ℕ) (w n : ℕ) → w ≤ n → length t ≡ n → length out ≡ n → out ≡ laid t w ns → w + length ns ≤ n
-laid-inside t ns out w n h a b e =
-    let l : length out ≡ w + (length ns + (length t - (w + length ns))) =
-    ap length e ∙ rw (length-append, length-append, length-drop, length-take-le w t (omega arith)) in
-    omega arith
+use Rattle.sections.specs.Lists.{few-sections, few-programs, few-maps, sections-by, programs-by, maps-by, RoomFor, Lists}
+use Rattle.sections.specs.Candidates.{Candidates, candidates-none, candidates-inside, candidates-lent, candidates-back, candidates-next, candidates-own}
 
 module _ (d t : List ℕ) (v : View) where
   abbrev o : Object
@@ -61,70 +54,153 @@ module _ (d t : List ℕ) (v : View) where
     pub refused-sections : versionRefused d t v ≡ none → objectRefusal o ≡ sectionsRefused
     refused-sections f = refused-in-turn ∙ (λ k. orElse (e k) (orElse (f k) sectionsRefused))
 
-  -- i sections are passed: none is refused, their symbols end at `from`, and their functions are the first w of a list
-  pub record Going (order functions : List ℕ) (i from w : ℕ) : Type 0 where
+  -- ---- what the pass answers
+
+  -- nothing refuses the object, and the first n of each list are what its sections list
+  pub record Found (q : Option Refusal) (n : Counts) (sections programs functions maps : List ℕ) : Type 0 where
+    pub fine : q ≡ none
+    pub few-sections : n .sections ≤ v .sections
+    pub few-programs : n .programs ≤ v .symbols
+    pub few-functions : n .functions ≤ v .symbols
+    pub few-maps : n .maps ≤ v .sections + v .symbols
+    pub of-sections : Candidates (sectionCandidates d t v) (n .sections) sections
+    pub of-programs : Candidates (programCandidates d t v) (n .programs) programs
+    pub of-functions : Candidates (functionCandidates d t v) (n .functions) functions
+    pub of-maps : Candidates (mapCandidates d t v) (n .maps) maps
+
+  abbrev pub Listed : Option Refusal → Tables → List ℕ → List ℕ → List ℕ → List ℕ → Type 0
+  Listed q (Tables.Refused x) sections programs functions maps = q ≡ some x
+  Listed q (Tables.Numbers n) sections programs functions maps = Found q n sections programs functions maps
+
+  -- ---- the loop
+
+  -- i sections are passed: none is refused, their symbols end at `from`, and the first n of each list are what they list
+  pub record Going (order sections programs functions maps : List ℕ) (i from : ℕ) (n : Counts) : Type 0 where
     pub reached : Reached d t v order i from
-    pub few : w ≤ from
-    pub count : w ≡ length (rows (functionsFrom d t v) i)
-    pub held : take w functions ≡ rows (functionsFrom d t v) i
     pub fine : firstIn (sectionRefusal o) (tab (sectionIn d t v) i) ≡ none
+    pub few-sections : n .sections ≤ i
+    pub few-programs : n .programs ≤ n .functions
+    pub few-functions : n .functions ≤ from
+    pub few-maps : n .maps ≤ i + from
+    pub of-sections : Candidates (rows (sectionsFrom d t v) i) (n .sections) sections
+    pub of-programs : Candidates (rows (programsFrom d t v) i) (n .programs) programs
+    pub of-functions : Candidates (rows (functionsFrom d t v) i) (n .functions) functions
+    pub of-maps : Candidates (rows (mapsFrom d t v) i) (n .maps) maps
 
-  pub going-start : (order functions : List ℕ) → Going order functions 0 0 0
-  unfolding firstIn
-  going-start order functions =
-      record {
-        reached = reached-start d t v order;
-        few = omega arith;
-        count = rw rows-none;
-        held = rw rows-none;
-        fine = rw tab-none;
-      }
+  -- section i is passed too, and its functions are those from w to m of a list
+  pub record Ahead (order functions : List ℕ) (i hi w m : ℕ) : Type 0 where
+    pub reached : Reached d t v order (i + 1) hi
+    pub fine : firstIn (sectionRefusal o) (tab (sectionIn d t v) (i + 1)) ≡ none
+    pub grown : w ≤ m
+    pub few : m ≤ hi
+    pub own : slice w m functions ≡ functionsFrom d t v i
+    pub held : Candidates (rows (functionsFrom d t v) (i + 1)) m functions
 
-  pub going-end : (order functions : List ℕ) (i from w : ℕ) → i ≡ v .sections → Going order functions i from w
-      → Listed sectionsRefused (functionCandidates d t v) (ParsedText.Functions w) functions
-  unfolding functionCandidates
-  going-end order functions i from w e g =
-      let f : sectionsRefused ≡ none = ap (λ n. firstIn (sectionRefusal o) (tab (sectionIn d t v) n)) (sym e) ∙ g .fine in
-      let k : rows (functionsFrom d t v) i ≡ rows (functionsFrom d t v) (v .sections) = ap (rows (functionsFrom d t v)) e in
-      let c : length (rows (functionsFrom d t v) (v .sections)) ≡ w = sym (g .count ∙ ap length k) in
-      record { answer = rw (f, c); numbers = λ z. ap (λ n. take n functions) c ∙ g .held ∙ k }
-
-  module _ (order functions : List ℕ) (i from w : ℕ) (l : i < v .sections) (g : Going order functions i from w) (r : ParsedText) (lo hi : ℕ) (out : List ℕ)
-      (a : Answers (sectionRefusal o (sectionIn d t v i)) (functionsBy d t v (sectionAt d t v i)) (take (hi - 0) functions) w r out) where
-    pub going-refused : (x : Refusal) (ns fs : List ℕ) → r ≡ ParsedText.Refused x → Listed sectionsRefused ns (ParsedText.Refused x) fs
-    going-refused x ns fs e = listed-refused sectionsRefused x ns fs
-        (firstIn-at (sectionRefusal o) (sectionIn d t v) i (v .sections) x l (g .fine) (go (sectionRefusal o (sectionIn d t v i)) (sym e ∙ a .answer)))
-      where
-        go : (q : Option Refusal) → ParsedText.Refused x ≡ parsedText q (w + length (functionsBy d t v (sectionAt d t v i))) → q ≡ some x
-        go none f = let z : _≡_ {A = ℕ} 0 1 = cc in absurd (omega arith)
-        go (some y) f = cc
-
-    fine-here : (m : ℕ) → r ≡ ParsedText.Functions m → (sectionRefusal o (sectionIn d t v i) ≡ none) × (m ≡ w + length (functionsBy d t v (sectionAt d t v i)))
-    fine-here m e = go (sectionRefusal o (sectionIn d t v i)) (sym e ∙ a .answer)
-      where
-        go : (q : Option Refusal) → ParsedText.Functions m ≡ parsedText q (w + length (functionsBy d t v (sectionAt d t v i)))
-            → (q ≡ none) × (m ≡ w + length (functionsBy d t v (sectionAt d t v i)))
-        go none f = (refl, cc)
-        go (some y) f = let z : _≡_ {A = ℕ} 0 1 = cc in absurd (omega arith)
-
-    pub going-next : (m : ℕ) → SectionsRise d t v → GroupOf d t v (sectionAt d t v i) order from lo hi → hi ≤ length functions → length out ≡ length (take (hi - 0) functions)
-        → r ≡ ParsedText.Functions m → Going order (out ++ drop (hi - 0) functions) (i + 1) hi m
-    going-next m rise b room len e =
-        let ns = functionsBy d t v (sectionAt d t v i) in
-        let n0 : hi - 0 ≡ hi = omega arith in
-        let f = fine-here m e in
-        let lt : length (take (hi - 0) functions) ≡ hi = rw n0 (length-take-le hi functions room) in
-        let wh : w ≤ hi = omega (arith, g .few, b .after, b .upward) in
-        let ou : out ≡ laid (take (hi - 0) functions) w ns = a .listed (f .0) in
-        let mh : w + length ns ≤ hi = laid-inside (take (hi - 0) functions) ns out w hi wh lt (len ∙ lt) ou in
-        let fr : take w (take (hi - 0) functions) ≡ rows (functionsFrom d t v) i = rw n0 (take-take w hi functions wh) ∙ g .held in
-        let more : rows (functionsFrom d t v) (i + 1) ≡ rows (functionsFrom d t v) i ++ ns = rows-more (functionsFrom d t v) i ∙ rw functions-by in
-        let ln : length (rows (functionsFrom d t v) i ++ ns) ≡ m = rw (length-append, ← g .count) (sym (f .1)) in
-        let ap2 : out ≡ (rows (functionsFrom d t v) i ++ ns) ++ drop (w + length ns) (take (hi - 0) functions) = ou ∙ rw (fr, append-assoc) in
+  module _ (order sections programs functions maps : List ℕ) where
+    pub going-start : Going order sections programs functions maps 0 0 (record { sections = 0; programs = 0; functions = 0; maps = 0 })
+    unfolding firstIn
+    going-start =
         record {
-          reached = reached-next d t v order i from lo hi rise b;
-          few = omega (arith, f .1);
-          count = rw (more, ln);
-          held = take-append-le m out (drop (hi - 0) functions) (omega (arith, len, lt, f .1)) ∙ ap (take m) ap2 ∙ take-at (rows (functionsFrom d t v) i ++ ns) _ m ln ∙ sym more;
-          fine = firstIn-on (sectionRefusal o) (sectionIn d t v) i (g .fine) (f .0);
+          reached = reached-start d t v order;
+          fine = rw tab-none;
+          few-sections = omega arith;
+          few-programs = omega arith;
+          few-functions = omega arith;
+          few-maps = omega arith;
+          of-sections = candidates-none (sectionsFrom d t v) sections;
+          of-programs = candidates-none (programsFrom d t v) programs;
+          of-functions = candidates-none (functionsFrom d t v) functions;
+          of-maps = candidates-none (mapsFrom d t v) maps;
         }
+
+    module _ (i from : ℕ) (n : Counts) (g : Going order sections programs functions maps i from n) (e : order ≡ sorted (bySection (symbolIn d t v)) (upTo (v .symbols))) where
+      y : length order ≡ v .symbols
+      y = all-symbols d t v order e
+
+      pub going-end : i ≡ v .sections → Found sectionsRefused n sections programs functions maps
+      unfolding sectionCandidates programCandidates functionCandidates mapCandidates
+      going-end q =
+          record {
+            fine = ap (λ k. firstIn (sectionRefusal o) (tab (sectionIn d t v) k)) (sym q) ∙ g .fine;
+            few-sections = omega (arith, g .few-sections);
+            few-programs = omega (arith, g .few-programs, g .few-functions, g .reached .within, y);
+            few-functions = omega (arith, g .few-functions, g .reached .within, y);
+            few-maps = omega (arith, g .few-maps, g .reached .within, y);
+            of-sections = rw (ap (rows (sectionsFrom d t v)) q) at (g .of-sections);
+            of-programs = rw (ap (rows (programsFrom d t v)) q) at (g .of-programs);
+            of-functions = rw (ap (rows (functionsFrom d t v)) q) at (g .of-functions);
+            of-maps = rw (ap (rows (mapsFrom d t v)) q) at (g .of-maps);
+          }
+
+      module _ (l : i < v .sections) (readable : Readable d t v) (lo hi : ℕ) (b : GroupOf d t v (sectionAt d t v i) order from lo hi) where
+        -- its functions were appended to the front of the list, up to hi
+        module _ (r : ParsedText) (out : List ℕ)
+            (a : Answers (sectionRefusal o (sectionIn d t v i)) (functionsBy d t v (sectionAt d t v i)) (take (hi - 0) functions) (n .functions) r out) where
+          pub going-refused : (x : Refusal) → r ≡ ParsedText.Refused x → sectionsRefused ≡ some x
+          going-refused x f = firstIn-at (sectionRefusal o) (sectionIn d t v) i (v .sections) x l (g .fine) (go (sectionRefusal o (sectionIn d t v i)) (sym f ∙ a .answer))
+            where
+              go : (q : Option Refusal) → ParsedText.Refused x ≡ parsedText q (n .functions + length (functionsBy d t v (sectionAt d t v i))) → q ≡ some x
+              go none z = let no : _≡_ {A = ℕ} 0 1 = cc in absurd (omega arith)
+              go (some w) z = cc
+
+          fine-here : (m : ℕ) → r ≡ ParsedText.Functions m
+              → (sectionRefusal o (sectionIn d t v i) ≡ none) × (m ≡ n .functions + length (functionsBy d t v (sectionAt d t v i)))
+          fine-here m f = go (sectionRefusal o (sectionIn d t v i)) (sym f ∙ a .answer)
+            where
+              go : (q : Option Refusal) → ParsedText.Functions m ≡ parsedText q (n .functions + length (functionsBy d t v (sectionAt d t v i)))
+                  → (q ≡ none) × (m ≡ n .functions + length (functionsBy d t v (sectionAt d t v i)))
+              go none z = (refl, cc)
+              go (some w) z = let no : _≡_ {A = ℕ} 0 1 = cc in absurd (omega arith)
+
+          pub going-ahead : (m : ℕ) → hi ≤ length functions → length out ≡ length (take (hi - 0) functions) → r ≡ ParsedText.Functions m
+              → Ahead order (out ++ drop (hi - 0) functions) i hi (n .functions) m
+          going-ahead m room len f =
+              let q = fine-here m f in
+              let F = functionsFrom d t v in
+              let n0 : hi - 0 ≡ hi = omega arith in
+              let lt : length (take (hi - 0) functions) ≡ hi = rw n0 (length-take-le hi functions room) in
+              let c = candidates-lent (g .of-functions) (hi - 0) (omega (arith, g .few-functions, b .after, b .upward)) in
+              let k = candidates-next F i c (functionsBy d t v (sectionAt d t v i)) out m (functions-by d t v i) (record { count = q .1; held = a .listed (q .0) ∙ rw (q .1) }) in
+              let h = candidates-back k (drop (hi - 0) functions) in
+              record {
+                reached = reached-next d t v order i from lo hi (readable .sections-rise) b;
+                fine = firstIn-on (sectionRefusal o) (sectionIn d t v) i (g .fine) (q .0);
+                grown = omega (arith, q .1);
+                few = omega (arith, candidates-inside k, len, lt);
+                own = candidates-own F i (g .of-functions) _ m h;
+                held = h;
+              }
+
+        -- what else it lists
+        module _ (fs : List ℕ) (m : ℕ) (a : Ahead order fs i hi (n .functions) m) where
+          pub going-room : v .sections ≤ length sections → v .symbols ≤ length programs → v .sections + v .symbols ≤ length maps
+              → RoomFor (v .sections) order lo hi sections programs fs maps n m
+          going-room p q s =
+              record {
+                upward = b .upward;
+                within = b .within;
+                small = λ k f h. omega (arith, member-below d t v (sectionAt d t v i) lo hi k order (b .group) (b .within) f h, readable .few-sections, readable .few-symbols);
+                grown = a .grown;
+                inside = candidates-inside (a .held);
+                for-section = omega (arith, g .few-sections);
+                for-programs = omega (arith, g .few-programs, a .grown, a .few, b .within, y);
+                for-maps = omega (arith, g .few-maps, b .after, b .upward, b .within, y);
+              }
+
+          pub going-next : (k : Kind) (r : Counts) (s p u : List ℕ) → k ≡ kindOf (sectionIn d t v i)
+              → Lists (v .sections) k i (slice lo hi order) (slice (n .functions) m fs) n m r sections programs maps s p u → Going order s p fs u (i + 1) hi r
+          going-next k r s p u e x =
+              let ls : length (slice lo hi order) ≡ hi - lo = length-slice lo hi order (b .within) in
+              let lf : length (slice (n .functions) m fs) ≡ m - n .functions = length-slice (n .functions) m fs (candidates-inside (a .held)) in
+              record {
+                reached = a .reached;
+                fine = a .fine;
+                few-sections = omega (arith, x .of-sections .count, few-sections k i, g .few-sections);
+                few-programs = omega (arith, x .of-programs .count, few-programs k (slice (n .functions) m fs), lf, g .few-programs, x .of-functions, a .grown);
+                few-functions = omega (arith, x .of-functions, a .few);
+                few-maps = omega (arith, x .of-maps .count, few-maps (v .sections) k i (slice lo hi order), ls, g .few-maps, b .after, b .upward);
+                of-sections = candidates-next (sectionsFrom d t v) i (g .of-sections) _ s (r .sections) (sections-by d t v i ∙ rw (← e)) (x .of-sections);
+                of-programs = candidates-next (programsFrom d t v) i (g .of-programs) _ p (r .programs) (programs-by d t v i ∙ rw (← e, ← a .own)) (x .of-programs);
+                of-functions = rw (x .of-functions) (a .held);
+                of-maps = candidates-next (mapsFrom d t v) i (g .of-maps) _ u (r .maps) (maps-by d t v i ∙ rw (← e, ← b .group)) (x .of-maps);
+              }

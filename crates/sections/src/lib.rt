@@ -1,12 +1,13 @@
-// Numbers 4 to 17 of an object, and the numbers of its functions, by one pass over its sections.
+// Numbers 4 to 17 of an object, and the record numbers that its sections list for each table, by one pass over them.
 ghost use mathlib.Core.Path.{_≡_};
-ghost use Prim.Native.Nat.{_+_, _-_, _<_, _≤_};
-ghost use lib.ListN.{length};
+ghost use Prim.Native.Nat.{ℕ, _+_, _-_, _^_, _<_, _≤_};
+ghost use lib.ListN.{length, getD};
 ghost use lib.Seq.{slice};
 ghost use Rattle.model.specs.declared.EbpfSectionKind.{EbpfSectionKind as Kind};
 ghost use Rattle.model.specs.Refusals.{programRefusal, textRefusal, kindRefusal, sectionRefusal, objectRefusal};
 ghost use Rattle.model.specs.SectionKind.{isKind, kindOf};
 ghost use Rattle.orders.specs.Sort.{byKey, sorted};
+ghost use Rattle.plan.specs.Groups.{Laid};
 ghost use Rattle.plan.specs.Numbers.{upTo};
 ghost use Rattle.plan.specs.SortedGroups.{bySection};
 ghost use Rattle.records.specs.Readable.{Readable};
@@ -14,13 +15,14 @@ ghost use Rattle.keys.specs.declared.By.{By};
 ghost use Rattle.keys.specs.Keys.{keyOf};
 ghost use Rattle.view.specs.Group.{membersIn, programsAmong};
 ghost use Rattle.view.specs.View.{sectionFrom, symbolIn, objectIn};
-ghost use Rattle.catalogue.specs.Numbers.{functionCandidates};
 ghost use Rattle.first_checks.specs.Targets.{NextOf};
 ghost use Rattle.sections.specs.Grouped.{Passed, GroupOf};
 ghost use Rattle.sections.specs.Answers.{answerOf, Answers, walkedIn, functionsBy};
+ghost use Rattle.sections.specs.Lists.{sectionsOf, programsOf, mapsOf, RoomFor, Lists};
 ghost use Rattle.sections.specs.Pass.{Listed, sectionsRefused};
 use keys::By;
 use model::EbpfSectionKind;
+use model::Refusal;
 use model::SectionRecord;
 use object_view::View;
 use text::ParsedText;
@@ -29,14 +31,27 @@ use view::Checked;
 // A symbol's section, where it has none.
 const NO_SECTION: u32 = 0xFFFF_FFFF;
 
+// How many numbers each table has.
+pub struct Counts {
+    pub sections: usize,
+    pub programs: usize,
+    pub functions: usize,
+    pub maps: usize,
+}
+
+pub enum Tables {
+    Refused(Refusal),
+    Numbers(Counts),
+}
+
 // Where a section's symbols lie among all symbols sorted by section.
-pub struct Group {
-    pub lo: usize,
-    pub hi: usize,
+struct Group {
+    lo: usize,
+    hi: usize,
 }
 
 // The group of a section; those of the sections before it end at `from`.
-pub fn group_of(d: &[u8], t: &[u32], v: View, s: SectionRecord, order: &[u32], from: usize) -> Group
+fn group_of(d: &[u8], t: &[u32], v: View, s: SectionRecord, order: &[u32], from: usize) -> Group
     requires { ⌜ (from ≤ length (now order)) × (now order ≡ sorted (bySection (symbolIn (now d) (now t) v)) (upTo (v .symbols))) × Passed (now d) (now t) v (now order) from (s .index .0) ⌝ }
     ensures { λ r. ⌜ GroupOf (now (d .entry)) (now (t .entry)) v s (now (order .entry)) from (r .lo) (r .hi) ⌝ }
 {
@@ -154,7 +169,7 @@ fn parse_kind(
     }
 }
 
-pub fn is_btf_ext(kind: EbpfSectionKind) -> bool
+fn is_btf_ext(kind: EbpfSectionKind) -> bool
     ensures { λ r. ⌜ r ≡ isKind Kind.BtfExt kind ⌝ }
 {
     match kind {
@@ -168,6 +183,7 @@ fn parse_section(
     t: &[u32],
     v: View,
     s: SectionRecord,
+    kind: EbpfSectionKind,
     next: &[u32],
     order: &[u32],
     lo: usize,
@@ -177,10 +193,9 @@ fn parse_section(
     functions: &mut [u32],
     w: usize,
 ) -> ParsedText
-    requires { ⌜ (lo ≤ hi) × (hi ≤ length (now order)) × (w + (hi - lo) ≤ length (now functions)) × (slice lo hi (now order) ≡ membersIn (now d) (now t) v s) × (hi - lo ≤ length (now group)) × (hi - lo ≤ length (now tmp)) × NextOf (now d) (now t) v (now next) × (s .relocations .at + s .relocations .length ≤ v .relocations) ⌝ }
+    requires { ⌜ (lo ≤ hi) × (hi ≤ length (now order)) × (w + (hi - lo) ≤ length (now functions)) × (slice lo hi (now order) ≡ membersIn (now d) (now t) v s) × (hi - lo ≤ length (now group)) × (hi - lo ≤ length (now tmp)) × (kind ≡ kindOf (sectionFrom (now d) (now t) v s)) × NextOf (now d) (now t) v (now next) × (s .relocations .at + s .relocations .length ≤ v .relocations) ⌝ }
     ensures { λ r. ⌜ Answers (sectionRefusal (objectIn (now (d .entry)) (now (t .entry)) v) (sectionFrom (now (d .entry)) (now (t .entry)) v s)) (functionsBy (now (d .entry)) (now (t .entry)) v s) (now (functions .entry)) w r (now (functions .exit)) ⌝ }
 {
-    let kind = view::kind_of(d, t, v, s);
     if is_btf_ext(kind) {
         return ParsedText::Functions(w);
     }
@@ -188,6 +203,90 @@ fn parse_section(
         return answer(view::of_section(4, s), w);
     }
     parse_kind(d, t, v, s, kind, order, lo, hi, group, tmp, functions, w)
+}
+
+// Appends a section's own number to the first w of out, unless it is `.BTF.ext`.
+fn list_section(kind: EbpfSectionKind, i: u32, out: &mut [u32], w: usize) -> usize
+    requires { ⌜ w < length (now out) ⌝ }
+    ensures { λ r. ⌜ Laid w r (sectionsOf kind i) (now (out .entry)) (now (out .exit)) ⌝ }
+{
+    if is_btf_ext(kind) {
+        return w;
+    }
+    out[w] = i;
+    w + 1
+}
+
+// Appends a section's programs to the first `at` of out: they are its functions, those from w to n.
+fn list_programs(
+    kind: EbpfSectionKind,
+    functions: &[u32],
+    w: usize,
+    n: usize,
+    out: &mut [u32],
+    at: usize,
+) -> usize
+    requires { ⌜ (w ≤ n) × (n ≤ length (now functions)) × (at + (n - w) ≤ length (now out)) ⌝ }
+    ensures { λ r. ⌜ Laid at r (programsOf kind (slice w n (now (functions .entry)))) (now (out .entry)) (now (out .exit)) ⌝ }
+{
+    match kind {
+        EbpfSectionKind::Program => {
+            let end = at + (n - w);
+            sort::copy(&mut out[at..end], &functions[w..n]);
+            end
+        }
+        _ => at,
+    }
+}
+
+// Appends the numbers of a section's maps to the first w of out; the group is that of its symbols.
+fn list_maps(
+    sections: u32,
+    kind: EbpfSectionKind,
+    i: u32,
+    order: &[u32],
+    lo: usize,
+    hi: usize,
+    out: &mut [u32],
+    w: usize,
+) -> usize
+    requires { ⌜ (lo ≤ hi) × (hi ≤ length (now order)) × (w + (hi - lo) < length (now out)) × ((k : ℕ) → lo ≤ k → k < hi → sections + getD (now order) k 0 < 2 ^ 32) ⌝ }
+    ensures { λ r. ⌜ Laid w r (mapsOf sections kind i (slice lo hi (now (order .entry)))) (now (out .entry)) (now (out .exit)) ⌝ }
+{
+    match kind {
+        EbpfSectionKind::Maps => map_sections::map_numbers(sections, order, lo, hi, out, w),
+        EbpfSectionKind::Bss | EbpfSectionKind::Data | EbpfSectionKind::Rodata => {
+            out[w] = i;
+            w + 1
+        }
+        _ => w,
+    }
+}
+
+// Appends what a section lists besides its functions, which end at m; n numbers stand in each list.
+fn list_others(
+    count: u32,
+    kind: EbpfSectionKind,
+    i: u32,
+    order: &[u32],
+    lo: usize,
+    hi: usize,
+    sections: &mut [u32],
+    programs: &mut [u32],
+    functions: &[u32],
+    maps: &mut [u32],
+    n: Counts,
+    m: usize,
+) -> Counts
+    requires { ⌜ RoomFor count (now order) lo hi (now sections) (now programs) (now functions) (now maps) n m ⌝ }
+    ensures { λ r. ⌜ Lists count kind i (slice lo hi (now (order .entry))) (slice (n .functions) m (now (functions .entry))) n m r (now (sections .entry)) (now (programs .entry)) (now (maps .entry)) (now (sections .exit)) (now (programs .exit)) (now (maps .exit)) ⌝ }
+{
+    Counts {
+        sections: list_section(kind, i, sections, n.sections),
+        programs: list_programs(kind, functions, n.functions, m, programs, n.programs),
+        functions: m,
+        maps: list_maps(count, kind, i, order, lo, hi, maps, n.maps),
+    }
 }
 
 // The sections by index; functions are appended, and are never more than the symbols that were passed.
@@ -199,43 +298,70 @@ fn parse_sections(
     order: &[u32],
     group: &mut [u32],
     tmp: &mut [u32],
+    sections: &mut [u32],
+    programs: &mut [u32],
     functions: &mut [u32],
-) -> ParsedText
-    requires { ⌜ NextOf (now d) (now t) v (now next) × (now order ≡ sorted (bySection (symbolIn (now d) (now t) v)) (upTo (v .symbols))) × (length (now order) ≤ length (now group)) × (length (now order) ≤ length (now tmp)) × (length (now order) ≤ length (now functions)) × Readable (now d) (now t) v ⌝ }
-    ensures { λ r. ⌜ Listed (sectionsRefused (now (d .entry)) (now (t .entry)) v) (functionCandidates (now (d .entry)) (now (t .entry)) v) r (now (functions .exit)) ⌝ }
+    maps: &mut [u32],
+) -> Tables
+    requires { ⌜ NextOf (now d) (now t) v (now next) × (now order ≡ sorted (bySection (symbolIn (now d) (now t) v)) (upTo (v .symbols))) × (v .symbols ≤ length (now group)) × (v .symbols ≤ length (now tmp)) × (v .sections ≤ length (now sections)) × (v .symbols ≤ length (now programs)) × (v .symbols ≤ length (now functions)) × (v .sections + v .symbols ≤ length (now maps)) × Readable (now d) (now t) v ⌝ }
+    ensures { λ r. ⌜ Listed (now (d .entry)) (now (t .entry)) v (sectionsRefused (now (d .entry)) (now (t .entry)) v) r (now (sections .exit)) (now (programs .exit)) (now (functions .exit)) (now (maps .exit)) ⌝ }
 {
     let end = v.sections;
     let mut i: u32 = 0;
     let mut from: usize = 0;
-    let mut w: usize = 0;
+    let mut n = Counts {
+        sections: 0,
+        programs: 0,
+        functions: 0,
+        maps: 0,
+    };
     while i < end {
         let s = records::section(d, t, v, i);
+        let kind = view::kind_of(d, t, v, s);
         let at = group_of(d, t, v, s, order, from);
+        let lo = at.lo;
         let hi = at.hi;
+        let w = n.functions;
         match parse_section(
             d,
             t,
             v,
             s,
+            kind,
             next,
             order,
-            at.lo,
+            lo,
             hi,
             group,
             tmp,
             &mut functions[0..hi],
             w,
         ) {
-            ParsedText::Refused(r) => return ParsedText::Refused(r),
-            ParsedText::Functions(n) => w = n,
+            ParsedText::Refused(r) => return Tables::Refused(r),
+            ParsedText::Functions(m) => {
+                n = list_others(
+                    end,
+                    kind,
+                    i,
+                    order,
+                    lo,
+                    hi,
+                    sections,
+                    programs,
+                    functions,
+                    maps,
+                    n,
+                    m,
+                );
+            }
         }
         from = hi;
         i += 1;
     }
-    ParsedText::Functions(w)
+    Tables::Numbers(n)
 }
 
-// Numbers 4 to 17; all symbols sorted by section; the numbers of the functions, in the order of the sections.
+// Numbers 4 to 17; all symbols sorted by section; the numbers that the sections list for each table, in their order.
 pub fn parse_object(
     d: &[u8],
     t: &[u32],
@@ -244,18 +370,33 @@ pub fn parse_object(
     order: &mut [u32],
     group: &mut [u32],
     tmp: &mut [u32],
+    sections: &mut [u32],
+    programs: &mut [u32],
     functions: &mut [u32],
-) -> ParsedText
-    requires { ⌜ (v .relocations ≤ length (now next)) × (length (now order) ≡ v .symbols) × (v .symbols ≤ length (now group)) × (length (now tmp) ≡ v .symbols) × (v .symbols ≤ length (now functions)) × Readable (now d) (now t) v ⌝ }
-    ensures { λ r. ⌜ (now (order .exit) ≡ sorted (bySection (symbolIn (now (d .entry)) (now (t .entry)) v)) (upTo (v .symbols))) × Listed (objectRefusal (objectIn (now (d .entry)) (now (t .entry)) v)) (functionCandidates (now (d .entry)) (now (t .entry)) v) r (now (functions .exit)) ⌝ }
+    maps: &mut [u32],
+) -> Tables
+    requires { ⌜ (v .relocations ≤ length (now next)) × (length (now order) ≡ v .symbols) × (v .symbols ≤ length (now group)) × (length (now tmp) ≡ v .symbols) × (v .sections ≤ length (now sections)) × (v .symbols ≤ length (now programs)) × (v .symbols ≤ length (now functions)) × (v .sections + v .symbols ≤ length (now maps)) × Readable (now d) (now t) v ⌝ }
+    ensures { λ r. ⌜ (now (order .exit) ≡ sorted (bySection (symbolIn (now (d .entry)) (now (t .entry)) v)) (upTo (v .symbols))) × Listed (now (d .entry)) (now (t .entry)) v (objectRefusal (objectIn (now (d .entry)) (now (t .entry)) v)) r (now (sections .exit)) (now (programs .exit)) (now (functions .exit)) (now (maps .exit)) ⌝ }
 {
     first_checks::next_untargeted(d, t, v, next);
     groups::by_section(d, t, v, order, tmp);
     if let Checked::Refused(r) = first_checks::license_refusal(d, t, v, next) {
-        return ParsedText::Refused(r);
+        return Tables::Refused(r);
     }
     if let Checked::Refused(r) = first_checks::version_refusal(d, t, v, next) {
-        return ParsedText::Refused(r);
+        return Tables::Refused(r);
     }
-    parse_sections(d, t, v, next, order, group, tmp, functions)
+    parse_sections(
+        d,
+        t,
+        v,
+        next,
+        order,
+        group,
+        tmp,
+        sections,
+        programs,
+        functions,
+        maps,
+    )
 }

@@ -1,4 +1,2 @@
--- What the sections list in each table, and the tables made from it.
-pub mod Candidates
-pub mod Listed
+-- The tables made of what the sections list.
 pub mod Parsed

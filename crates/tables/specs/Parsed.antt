@@ -1,56 +1,43 @@
 -- What parsing an object answers, and what it leaves in the lent tables.
-use mathlib.Core.Path.{_≡_, refl, sym, ap, _∙_}
-use mathlib.Core.List.{List, _++_}
+use mathlib.Core.Path.{_≡_, sym, ap, _∙_}
+use mathlib.Core.List.{List}
 use mathlib.Core.Option.{Option, none, some}
-use Prim.Native.Nat.{ℕ, _-_, _≤_, min}
+use Prim.Native.Nat.{ℕ, _-_, _≤_}
 use native.Mathlib.Omega.{arith}
-use lib.ListN.{length, take, length-take}
-use lib.Seq.{length-take-le, take-at, take-append-le}
+use lib.ListN.{length, take}
+use lib.Seq.{length-take-le}
 use Rattle.lists.specs.Tests.{not-some}
 use Rattle.object_view.specs.declared.View.{View}
 use Rattle.model.specs.declared.Refusal.{Refusal}
 use Rattle.model.specs.Refusals.{objectRefusal}
+use Rattle.model.specs.Table.{tableOf}
 use Rattle.view.specs.View.{objectIn}
 use Rattle.catalogue.specs.Numbers.{sectionNumbers, programNumbers, functionNumbers, mapNumbers}
-use Rattle.text.specs.declared.ParsedText.{ParsedText}
-use Rattle.text.specs.Parsed.{parsedText}
-use Rattle.sections.specs.Pass.{Listed}
-use Rattle.tables.specs.declared.Counts.{Counts}
-use Rattle.tables.specs.declared.Tables.{Tables}
-use Rattle.tables.specs.Candidates.{Front}
+use Rattle.sections.specs.declared.Counts.{Counts}
+use Rattle.sections.specs.declared.Tables.{Tables}
+use Rattle.sections.specs.Candidates.{Candidates, candidates-inside}
 
--- ---- what the pass over the sections answered
+-- ---- one table
 
-module _ {q : Option Refusal} {ns : List ℕ} {r : ParsedText} {out : List ℕ} (l : Listed q ns r out) where
-  pub pass-refused : (x : Refusal) → r ≡ ParsedText.Refused x → q ≡ some x
-  pass-refused x e = go q (sym e ∙ l .answer)
-    where
-      go : (p : Option Refusal) → ParsedText.Refused x ≡ parsedText p (length ns) → p ≡ some x
-      go none f = let z : _≡_ {A = ℕ} 0 1 = cc in absurd (omega arith)
-      go (some y) f = cc
+-- those numbers stand in front
+abbrev pub Front : List ℕ → List ℕ → Type 0
+Front ns out = take (length ns) out ≡ ns
 
-  pub pass-fine : (n : ℕ) → r ≡ ParsedText.Functions n → (q ≡ none) × (n ≡ length ns)
-  pass-fine n e = go q (sym e ∙ l .answer)
-    where
-      go : (p : Option Refusal) → ParsedText.Functions n ≡ parsedText p (length ns) → (p ≡ none) × (n ≡ length ns)
-      go none f = (refl, cc)
-      go (some y) f = let z : _≡_ {A = ℕ} 0 1 = cc in absurd (omega arith)
+pub record Tabled (ns : List ℕ) (r : ℕ) (out : List ℕ) : Type 0 where
+  pub count : r ≡ length ns
+  pub front : Front ns out
 
-  -- the numbers, also where the list is a part of a longer one
-  pub pass-numbers : (n : ℕ) (rest : List ℕ) → r ≡ ParsedText.Functions n → (n ≤ length out) × (take n (out ++ rest) ≡ ns)
-  pass-numbers n rest e =
-      let f = pass-fine n e in
-      let t : take n out ≡ ns = rw (f .1) (l .numbers (f .0)) in
-      let m : min n (length out) ≡ n = sym (length-take n out) ∙ ap length t ∙ sym (f .1) in
-      let k : n ≤ length out = omega arith in
-      (k, take-append-le n out rest k ∙ t)
+pub tabled : (key : ℕ → List ℕ) {cs o : List ℕ} {n : ℕ} (out : List ℕ) (r : ℕ) → Candidates cs n o → length out ≡ length o → r ≤ n → take r out ≡ tableOf key (take n o)
+    → Tabled (tableOf key cs) r out
+tabled key out r c k l f =
+    let h = candidates-inside c in
+    let q : take r out ≡ tableOf key _ = f ∙ ap (tableOf key) (c .front) in
+    let e : r ≡ length (tableOf key _) = sym (length-take-le r out (omega arith)) ∙ ap length q in
+    record { count = e; front = rw (← e) q }
 
 -- the front of a list, lent
 pub lent-length : (l : List ℕ) (y n : ℕ) → y ≡ n → n ≤ length l → length (take (y - 0) l) ≡ n
 lent-length l y n e h = let z : y - 0 ≡ n = omega arith in rw z (length-take-le n l h)
-
-pub lent-back : (x l : List ℕ) (y n : ℕ) → y ≡ n → length x ≡ n → take (y - 0) (x ++ l) ≡ x
-lent-back x l y n e h = let z : y - 0 ≡ n = omega arith in rw z (take-at x l n h)
 
 -- ---- the answer
 

@@ -297,7 +297,7 @@ load-sized-load-small-requires : (t : ℕ) → load-sized-lts.Need-load-small-re
 load-sized-load-small-requires t c κs =
     let m = c .before .before .before .before .before .before in
     let z = m .before .before .before .before .before .before .before .before .before .before .before .before .before .before in
-    let f = few-both (z .args .v) 256 (m .before .few2 .result) (m .before .few2 .ensures) (m .if4 .taken) in
+    let f = few-both (z .args .v) 512 (m .before .few2 .result) (m .before .few2 .ensures) (m .if4 .taken) in
     let p = z .pre .1 in
     (f .0, f .1, p .0, p .1, p .2, p .3)
 

@@ -26,14 +26,20 @@ slice-aggregate-load-opened-5 c = search needs
 slice-aggregate-load-opened-6 : tie.Need-slice-aggregate-load-opened-6
 slice-aggregate-load-opened-6 c = search needs
 
+slice-aggregate-load-opened-7 : tie.Need-slice-aggregate-load-opened-7
+slice-aggregate-load-opened-7 c = search needs
+
+slice-aggregate-load-opened-8 : tie.Need-slice-aggregate-load-opened-8
+slice-aggregate-load-opened-8 c = search needs
+
 load-opened-requires : tie.Need-load-opened-requires
 load-opened-requires c κs =
-    let z = c .before .before .before .before .before .before .before .before .before .before .before .before .before .before .before .before .before .before .before .before .before .before in
+    let z = c .before .before .before .before .before .before .before .before .before .before .before .before .before .before .before .before .before .before .before .before .before .before .before .before in
     let a = z .args in
     let r = z .pre .0 in (
       r,
-      scratch-of (a .v) _ _ (now (a .f)) _ _ _ _ 4096 65536 69632 69632 65536 4096 (length-replicate {A = ℕ} 4096 0) (length-replicate {A = ℕ} 65536 0) (length-replicate {A = ℕ} 69632 0) (length-replicate {A = ℕ} 69632 0) (length-replicate {A = ℕ} 65536 0) (length-replicate {A = ℕ} 4096 0) (z .pre .1) (r .few-symbols)
-          (omega (arith, r .few-sections, r .few-symbols, r .few-relocations), omega (arith, r .few-sections, r .few-symbols, r .few-relocations), omega (arith, r .few-sections, r .few-symbols, r .few-relocations), omega (arith, r .few-sections, r .few-symbols, r .few-relocations), omega (arith, r .few-sections, r .few-symbols, r .few-relocations), omega (arith, r .few-sections, r .few-symbols, r .few-relocations), omega (arith, r .few-sections, r .few-symbols, r .few-relocations), omega (arith, r .few-sections, r .few-symbols, r .few-relocations), omega (arith, r .few-sections, r .few-symbols, r .few-relocations), omega arith, omega arith, omega arith),
+      scratch-of (a .v) _ _ (now (a .f)) _ _ _ _ _ _ 4096 65536 69632 69632 65536 4096 65536 65536 (length-replicate {A = ℕ} 4096 0) (length-replicate {A = ℕ} 65536 0) (length-replicate {A = ℕ} 69632 0) (length-replicate {A = ℕ} 69632 0) (length-replicate {A = ℕ} 65536 0) (length-replicate {A = ℕ} 4096 0) (length-replicate {A = ℕ} 65536 0) (length-replicate {A = ℕ} 65536 0) (z .pre .1) (r .few-symbols)
+          (omega (arith, r .few-sections, r .few-symbols, r .few-relocations), omega (arith, r .few-sections, r .few-symbols, r .few-relocations), omega (arith, r .few-sections, r .few-symbols, r .few-relocations), omega (arith, r .few-sections, r .few-symbols, r .few-relocations), omega (arith, r .few-sections, r .few-symbols, r .few-relocations), omega (arith, r .few-sections, r .few-symbols, r .few-relocations), omega (arith, r .few-sections, r .few-symbols, r .few-relocations), omega (arith, r .few-sections, r .few-symbols, r .few-relocations), omega (arith, r .few-sections, r .few-symbols, r .few-relocations), omega (arith, r .few-sections, r .few-symbols, r .few-relocations), omega arith, omega arith, omega arith),
       z .pre .2,
       z .pre .3,
     )
@@ -69,6 +75,8 @@ load-large-spec =
     slice-aggregate-load-opened-4
     slice-aggregate-load-opened-5
     slice-aggregate-load-opened-6
+    slice-aggregate-load-opened-7
+    slice-aggregate-load-opened-8
     load-opened-requires
     same-length
     same-length-2

@@ -26,16 +26,22 @@ slice-aggregate-load-opened-5 c = search needs
 slice-aggregate-load-opened-6 : tie.Need-slice-aggregate-load-opened-6
 slice-aggregate-load-opened-6 c = search needs
 
+slice-aggregate-load-opened-7 : tie.Need-slice-aggregate-load-opened-7
+slice-aggregate-load-opened-7 c = search needs
+
+slice-aggregate-load-opened-8 : tie.Need-slice-aggregate-load-opened-8
+slice-aggregate-load-opened-8 c = search needs
+
 load-opened-requires : tie.Need-load-opened-requires
 load-opened-requires c κs =
-    let z = c .before .before .before .before .before .before .before .before .before .before .before .before .before .before .before .before .before .before .before .before .before .before in
+    let z = c .before .before .before .before .before .before .before .before .before .before .before .before .before .before .before .before .before .before .before .before .before .before .before .before in
     let a = z .args in
     let r = z .pre .2 in
-    let i : a .v .sections + a .v .symbols ≤ 256 = z .pre .0 in
-    let j : a .v .relocations ≤ 256 = z .pre .1 in (
+    let i : a .v .sections + a .v .symbols ≤ 512 = z .pre .0 in
+    let j : a .v .relocations ≤ 512 = z .pre .1 in (
       r,
-      scratch-of (a .v) _ _ (now (a .f)) _ _ _ _ 256 256 256 256 256 256 (length-replicate {A = ℕ} 256 0) (length-replicate {A = ℕ} 256 0) (length-replicate {A = ℕ} 256 0) (length-replicate {A = ℕ} 256 0) (length-replicate {A = ℕ} 256 0) (length-replicate {A = ℕ} 256 0) (z .pre .3) (r .few-symbols)
-          (omega arith, omega arith, omega arith, omega arith, omega arith, omega arith, omega arith, omega arith, omega arith, omega arith, omega arith, omega arith),
+      scratch-of (a .v) _ _ (now (a .f)) _ _ _ _ _ _ 512 512 512 512 512 512 512 512 (length-replicate {A = ℕ} 512 0) (length-replicate {A = ℕ} 512 0) (length-replicate {A = ℕ} 512 0) (length-replicate {A = ℕ} 512 0) (length-replicate {A = ℕ} 512 0) (length-replicate {A = ℕ} 512 0) (length-replicate {A = ℕ} 512 0) (length-replicate {A = ℕ} 512 0) (z .pre .3) (r .few-symbols)
+          (omega arith, omega arith, omega arith, omega arith, omega arith, omega arith, omega arith, omega arith, omega arith, omega arith, omega arith, omega arith, omega arith),
       z .pre .4,
       z .pre .5,
     )
@@ -71,6 +77,8 @@ load-small-spec =
     slice-aggregate-load-opened-4
     slice-aggregate-load-opened-5
     slice-aggregate-load-opened-6
+    slice-aggregate-load-opened-7
+    slice-aggregate-load-opened-8
     load-opened-requires
     same-length
     same-length-2

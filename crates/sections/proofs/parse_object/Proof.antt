@@ -1,5 +1,5 @@
 -- `sections::parse_object` meets its contract: the licence, the version, then the sections.
-use Rattle.sections.specs.Pass.{listed-refused, refused-licence, refused-version, refused-sections}
+use Rattle.sections.specs.Pass.{refused-licence, refused-version, refused-sections}
 use Rattle.text.specs.Parsed.{checked-fine, checked-refused}
 use Rattle.first_checks.specs.Targets.{NextOf, next-of}
 use native.Mathlib.Omega.{arith}
@@ -15,17 +15,14 @@ next-untargeted-requires c κs = search needs
 by-section-requires : tie.Need-by-section-requires
 by-section-requires c κs = search needs
 
-next-known : (c : tie.After-next-untargeted) → (let a = c .before .before .before .before .before .before .before .before .before .args in NextOf (now (a .d)) (now (a .t)) (a .v) (c .next-untargeted .last .1 .1 .1 .0))
+next-known : (c : tie.After-next-untargeted) → (let a = c .before .before .before .before .before .before .before .before .before .before .before .before .args in NextOf (now (a .d)) (now (a .t)) (a .v) (c .next-untargeted .last .1 .1 .1 .0))
 next-known c =
-    let st = c .before .before .before .before .before .before .before .before .before in
+    let st = c .before .before .before .before .before .before .before .before .before .before .before .before in
     let a = st .args in
     rw (c .next-untargeted .ensures) (next-of (now (a .d)) (now (a .t)) (a .v) (now (a .next)) (st .pre .0))
 
 license-refusal-requires : tie.Need-license-refusal-requires
-license-refusal-requires c κs =
-    let f = c .before .before .before .before .before .before .before .before .before .before in
-    let st = f .before .before .before .before .before .before .before .before .before in
-    (next-known f, st .pre .5)
+license-refusal-requires c κs = let f = c .before .before .before .before .before .before .before .before .before .before in (next-known f, f .before .before .before .before .before .before .before .before .before .before .before .before .pre .8)
 
 enum-known-r : tie.Need-enum-known-r
 enum-known-r c = search needs
@@ -42,19 +39,14 @@ same-length-3 c = search needs
 returns : tie.Need-returns
 returns c =
     let f = c .before .before .before in
-    let a = f .before .before .before .before .before .before .before .before .before .before .before .before .before .before .before .before .before .before .before .before .args in (
-      f .before .before .before .before .before .before .by-section .ensures,
-      listed-refused _ _ _ _ (refused-licence (now (a .d)) (now (a .t)) (a .v) _ (checked-refused _ _ (sym (f .license-refusal .ensures) ∙ c .before .r .given .1))),
-    )
+    let a = f .before .before .before .before .before .before .before .before .before .before .before .before .before .before .before .before .before .before .before .before .before .before .before .args in
+    (f .before .before .before .before .before .before .by-section .ensures, refused-licence (now (a .d)) (now (a .t)) (a .v) _ (checked-refused _ _ (sym (f .license-refusal .ensures) ∙ c .before .r .given .1)))
 
 enum-told : tie.Need-enum-told
 enum-told c = search needs
 
 version-refusal-requires : tie.Need-version-refusal-requires
-version-refusal-requires c κs =
-    let f = c .before .before .before .before .before .before .before .before .before .before .before .before .before .before in
-    let st = f .before .before .before .before .before .before .before .before .before in
-    (next-known f, st .pre .5)
+version-refusal-requires c κs = let f = c .before .before .before .before .before .before .before .before .before .before .before .before .before .before in (next-known f, f .before .before .before .before .before .before .before .before .before .before .before .before .pre .8)
 
 enum-known-r-2 : tie.Need-enum-known-r-2
 enum-known-r-2 c = search needs
@@ -72,30 +64,25 @@ returns-2 : tie.Need-returns-2
 returns-2 c =
     let v = c .before .before .before in
     let f = v .before .before .before .before in
-    let a = f .before .before .before .before .before .before .before .before .before .before .before .before .before .before .before .before .before .before .before .before .args in
-    let fine = checked-fine _ (sym (f .license-refusal .ensures) ∙ v .before .before .enum-told .given .1) in (
-      f .before .before .before .before .before .before .by-section .ensures,
-      listed-refused _ _ _ _ (refused-version (now (a .d)) (now (a .t)) (a .v) fine _ (checked-refused _ _ (sym (v .version-refusal .ensures) ∙ c .before .r2 .given .1))),
-    )
+    let a = f .before .before .before .before .before .before .before .before .before .before .before .before .before .before .before .before .before .before .before .before .before .before .before .args in
+    let fine = checked-fine _ (sym (f .license-refusal .ensures) ∙ v .before .before .enum-told .given .1) in
+    (f .before .before .before .before .before .before .by-section .ensures, refused-version (now (a .d)) (now (a .t)) (a .v) fine _ (checked-refused _ _ (sym (v .version-refusal .ensures) ∙ c .before .r2 .given .1)))
 
 enum-told-2 : tie.Need-enum-told-2
 enum-told-2 c = search needs
 
 parse-sections-requires : tie.Need-parse-sections-requires
 parse-sections-requires c κs =
-    let v = c .before .before .before .before .before .before .before in
-    let f = v .before .before .before .before .before .before .before .before .before .before .before .before .before .before .before in
-    let st = f .before .before .before .before .before .before .before .before .before in
-    let q = st .pre in
-    let s = v .before .before .before .before .before .before .before .before .before .before .by-section in
-    let k = s .kept .1 .1 .1 in
-    (next-known f, s .ensures, omega (arith, k .0, q .1, q .2), omega (arith, k .0, k .1 .0, q .1, q .3), omega (arith, k .0, q .1, q .4), q .5)
+    let s = c .before .before .before .before .before .before .before .before .before .before .before .before .before .before .before .before .before .before .before .before in
+    let f = s .before .before .before .before .before in
+    let q = f .before .before .before .before .before .before .before .before .before .before .before .before .pre in
+    (next-known f, s .by-section .ensures, q .2, omega (arith, s .by-section .kept .1 .1 .1 .1 .0, q .3), q .4, q .5, q .6, q .7, q .8)
 
 same-length-7 : tie.Need-same-length-7
-same-length-7 c = search needs
+same-length-7 c = c .before .before .before .before .before .before .before .before .before .before .before .before .before .before .before .before .before .before .before .before .before .before .before .before .before .before .before .before .before .before .before .before .before .before .before .before .before .before .next-untargeted .kept .1 .1 .1 .0
 
 same-length-8 : tie.Need-same-length-8
-same-length-8 c = search needs
+same-length-8 c = c .before .before .before .before .before .before .before .before .before .before .before .before .before .before .before .before .before .before .before .before .before .before .before .before .before .before .before .before .before .before .before .before .before .by-section .kept .1 .1 .1 .0
 
 same-length-9 : tie.Need-same-length-9
 same-length-9 c = search needs
@@ -106,14 +93,23 @@ same-length-10 c = search needs
 same-length-11 : tie.Need-same-length-11
 same-length-11 c = search needs
 
+same-length-12 : tie.Need-same-length-12
+same-length-12 c = search needs
+
+same-length-13 : tie.Need-same-length-13
+same-length-13 c = search needs
+
+same-length-14 : tie.Need-same-length-14
+same-length-14 c = search needs
+
 returns-3 : tie.Need-returns-3
 returns-3 c =
-    let p = c .before .before .before .before .before .before in
-    let v = p .before .before .before .before .before .before .before .before in
+    let p = c .before .before .before .before .before .before .before .before .before .before .before .before in
+    let v = p .before .before .before .before .before .before .before .before .before .before .before in
     let f = v .before .before .before .before in
-    let a = f .before .before .before .before .before .before .before .before .before .before .before .before .before .before .before .before .before .before .before .before .args in
+    let a = f .before .before .before .before .before .before .before .before .before .before .before .before .before .before .before .before .before .before .before .before .before .before .before .args in
     let one = checked-fine _ (sym (f .license-refusal .ensures) ∙ v .before .before .enum-told .given .1) in
-    let two = checked-fine _ (sym (v .version-refusal .ensures) ∙ p .before .before .before .before .before .before .enum-told2 .given .1) in
+    let two = checked-fine _ (sym (v .version-refusal .ensures) ∙ p .before .before .before .before .before .before .before .before .before .enum-told2 .given .1) in
     (f .before .before .before .before .before .before .by-section .ensures, rw (refused-sections (now (a .d)) (now (a .t)) (a .v) one two) (p .parse-sections .ensures))
 
 pub parse-object-spec : {M : Type 1} → statement M
@@ -142,4 +138,7 @@ parse-object-spec =
     same-length-9
     same-length-10
     same-length-11
+    same-length-12
+    same-length-13
+    same-length-14
     returns-3)

@@ -9,17 +9,15 @@ use borrow.Author.Needs.{needs}
 use Rattle.sections.proofs.parse_section.Statement.{statement}
 use Rattle.sections.proofs.parse_section.Tie as tie
 
-kind-of-requires : tie.Need-kind-of-requires
-kind-of-requires c κs = search needs
-
 is-btf-ext-requires : tie.Need-is-btf-ext-requires
 is-btf-ext-requires c κs = search needs
 
 returns : tie.Need-returns
 returns c =
     let b = c .before in
-    let a = b .before .before .before .before .before .before .before .before .before .args in
-    let k = sym (b .is-btf-ext .ensures ∙ ap (isKind Kind.BtfExt) (b .before .kind-of .ensures)) in
+    let st = b .before .before .before .before .before .before .before .before in
+    let a = st .args in
+    let k = sym (b .is-btf-ext .ensures ∙ ap (isKind Kind.BtfExt) (st .pre .6)) in
     section-skipped (now (a .d)) (now (a .t)) (a .v) (a .s) (now (a .functions)) (a .w) (k ∙ c .if1 .taken)
 
 untargeted-requires : tie.Need-untargeted-requires
@@ -35,10 +33,10 @@ returns-2 : tie.Need-returns-2
 returns-2 c =
     let u = c .before .before .before in
     let b = u .before .before in
-    let st = b .before .before .before .before .before .before .before .before .before in
+    let st = b .before .before .before .before .before .before .before .before in
     let a = st .args in
-    let k = sym (b .is-btf-ext .ensures ∙ ap (isKind Kind.BtfExt) (b .before .kind-of .ensures)) in
-    let r = reaches-untargeted (now (a .d)) (now (a .t)) (a .v) (now (a .next)) (a .s) (st .pre .6) (st .pre .7) in
+    let k = sym (b .is-btf-ext .ensures ∙ ap (isKind Kind.BtfExt) (st .pre .6)) in
+    let r = reaches-untargeted (now (a .d)) (now (a .t)) (a .v) (now (a .next)) (a .s) (st .pre .7) (st .pre .8) in
     rw (c .answer .ensures, c .before .of-section .ensures)
     (section-untargeted (now (a .d)) (now (a .t)) (a .v) (a .s) (now (a .functions)) (a .w) (k ∙ u .before .if1 .left) (sym (u .untargeted .ensures ∙ r) ∙ c .before .before .if2 .taken))
 
@@ -59,10 +57,10 @@ returns-3 c =
     let p = c .before .before .before .before .before .before in
     let u = p .before .before .before .before .before in
     let b = u .before .before in
-    let st = b .before .before .before .before .before .before .before .before .before in
+    let st = b .before .before .before .before .before .before .before .before in
     let a = st .args in
-    let k = sym (b .is-btf-ext .ensures ∙ ap (isKind Kind.BtfExt) (b .before .kind-of .ensures)) in
-    let r = reaches-untargeted (now (a .d)) (now (a .t)) (a .v) (now (a .next)) (a .s) (st .pre .6) (st .pre .7) in
+    let k = sym (b .is-btf-ext .ensures ∙ ap (isKind Kind.BtfExt) (st .pre .6)) in
+    let r = reaches-untargeted (now (a .d)) (now (a .t)) (a .v) (now (a .next)) (a .s) (st .pre .7) (st .pre .8) in
     section-kind (now (a .d)) (now (a .t)) (a .v) (a .s) (now (a .functions)) (a .w) (p .parse-kind .result) _ (k ∙ u .before .if1 .left)
     (sym (u .untargeted .ensures ∙ r) ∙ p .before .before .before .before .if2 .left) (p .parse-kind .ensures)
 
@@ -70,7 +68,6 @@ pub parse-section-spec : {M : Type 1} → statement M
 parse-section-spec =
     tie.close
     (tie.spec
-    kind-of-requires
     is-btf-ext-requires
     returns
     untargeted-requires

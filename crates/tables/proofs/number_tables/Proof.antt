@@ -1,25 +1,38 @@
 -- `tables::number_tables` meets its contract: one table after the other.
+use Rattle.tables.specs.Parsed.{tabled}
+use Rattle.sections.specs.Candidates.{candidates-inside}
+use Rattle.catalogue.specs.Numbers.{sectionNumbers, programNumbers, functionNumbers, mapNumbers}
+use Rattle.keys.specs.Keys.{keyOf}
+use Rattle.keys.specs.declared.By.{By}
 use native.Mathlib.Omega.{arith}
+use denote.Ref.{now}
 use borrow.Author.Needs.{needs}
 use Rattle.tables.proofs.number_tables.Statement.{statement}
 use Rattle.tables.proofs.number_tables.Tie as tie
 
-section-table-requires : tie.Need-section-table-requires
-section-table-requires c κs = search needs
+table-requires : tie.Need-table-requires
+table-requires c κs = let q = c .before .before .before .before .before .before .before .before .before .pre in (candidates-inside (q .0 .of-sections), omega (arith, q .0 .few-sections, q .1))
 
-program-table-requires : tie.Need-program-table-requires
-program-table-requires c κs = search needs
+table-requires-2 : tie.Need-table-requires-2
+table-requires-2 c κs =
+    let s = c .before .before .before .before .before .before in
+    let q = s .before .before .before .before .before .before .before .before .before .before .pre in
+    (candidates-inside (q .0 .of-programs), omega (arith, s .table .kept .1 .1 .1 .1 .1 .0, q .0 .few-programs, q .1))
 
-function-table-requires : tie.Need-function-table-requires
-function-table-requires c κs = search needs
+table-requires-3 : tie.Need-table-requires-3
+table-requires-3 c κs =
+    let p = c .before .before .before .before .before .before in
+    let s = p .before .before .before .before .before .before .before in
+    let q = s .before .before .before .before .before .before .before .before .before .before .pre in
+    (candidates-inside (q .0 .of-functions), omega (arith, p .table2 .kept .1 .1 .1 .1 .1 .0, s .table .kept .1 .1 .1 .1 .1 .0, q .0 .few-functions, q .1))
 
-map-table-requires : tie.Need-map-table-requires
-map-table-requires c κs =
+table-requires-4 : tie.Need-table-requires-4
+table-requires-4 c κs =
     let f = c .before .before .before .before .before .before in
     let p = f .before .before .before .before .before .before .before in
     let s = p .before .before .before .before .before .before .before in
-    let q = s .before .before .before .before .before .before .before .before .before .before .before .pre in
-    (q .0, q .3, omega (arith, f .function-table .kept .1 .1 .1 .1 .0, p .program-table .kept .1 .1 .1 .1 .1 .0, s .section-table .kept .1 .1 .1 .1 .0, q .4), q .5)
+    let q = s .before .before .before .before .before .before .before .before .before .before .pre in
+    (candidates-inside (q .0 .of-maps), omega (arith, f .table3 .kept .1 .1 .1 .1 .1 .0, p .table2 .kept .1 .1 .1 .1 .1 .0, s .table .kept .1 .1 .1 .1 .1 .0, q .0 .few-maps, q .1))
 
 same-length : tie.Need-same-length
 same-length c = search needs
@@ -37,33 +50,31 @@ same-length-5 : tie.Need-same-length-5
 same-length-5 c = search needs
 
 returns : tie.Need-returns
+unfolding sectionNumbers programNumbers functionNumbers mapNumbers
 returns c =
     let m = c .before .before .before .before in
     let f = m .before .before .before .before .before .before .before in
     let p = f .before .before .before .before .before .before .before in
-    let s = p .before .before .before .before .before .before .before in (
-      λ k. record {
-        sections = s .section-table .ensures .count k;
-        programs = p .program-table .ensures .count k;
-        functions = f .function-table .ensures .count k;
-        maps = m .map-table .ensures .count k;
-      },
-      record {
-        of-sections = s .section-table .ensures .front;
-        of-programs = p .program-table .ensures .front;
-        of-functions = f .function-table .ensures .front;
-        of-maps = m .map-table .ensures .front;
-      },
+    let s = p .before .before .before .before .before .before .before in
+    let st = s .before .before .before .before .before .before .before .before .before .before in
+    let a = st .args in
+    let q = st .pre .0 in
+    let ss = tabled (keyOf By.SectionName (now (a .d)) (now (a .t)) (a .v)) _ (s .table .result) (q .of-sections) (s .table .ensures .1) (s .table .ensures .0) (s .table .ensures .2) in
+    let ps = tabled (keyOf By.SymbolName (now (a .d)) (now (a .t)) (a .v)) _ (p .table2 .result) (q .of-programs) (p .table2 .ensures .1) (p .table2 .ensures .0) (p .table2 .ensures .2) in
+    let fs = tabled (keyOf By.SymbolAddress (now (a .d)) (now (a .t)) (a .v)) _ (f .table3 .result) (q .of-functions) (f .table3 .ensures .1) (f .table3 .ensures .0) (f .table3 .ensures .2) in
+    let ms = tabled (keyOf By.MapName (now (a .d)) (now (a .t)) (a .v)) _ (m .table4 .result) (q .of-maps) (m .table4 .ensures .1) (m .table4 .ensures .0) (m .table4 .ensures .2) in (
+      λ k. record { sections = ss .count k; programs = ps .count k; functions = fs .count k; maps = ms .count k },
+      record { of-sections = ss .front; of-programs = ps .front; of-functions = fs .front; of-maps = ms .front },
     )
 
 pub number-tables-spec : {M : Type 1} → statement M
 number-tables-spec =
     tie.close
     (tie.spec
-    section-table-requires
-    program-table-requires
-    function-table-requires
-    map-table-requires
+    table-requires
+    table-requires-2
+    table-requires-3
+    table-requires-4
     same-length
     same-length-2
     same-length-3
