@@ -31,7 +31,7 @@ use view::Checked;
 // A symbol's section, where it has none.
 const NO_SECTION: u32 = 0xFFFF_FFFF;
 
-// How many numbers each table has.
+// How many record numbers there are for each table.
 pub struct Counts {
     pub sections: usize,
     pub programs: usize,
@@ -289,7 +289,7 @@ fn list_others(
     }
 }
 
-// The sections by index; functions are appended, and are never more than the symbols that were passed.
+// The sections by index; what each lists is appended. Functions are never more than the symbols that were passed.
 fn parse_sections(
     d: &[u8],
     t: &[u32],
