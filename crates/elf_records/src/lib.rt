@@ -302,7 +302,7 @@ fn relocation_info(d: &[u8], t: &[u32], v: View, k: u32) -> u64
     u64_at(d, order, relocation_at(t, v, k) + 8)
 }
 
-fn target(info: u64) -> SymbolIndex
+fn target_symbol(info: u64) -> SymbolIndex
     ensures { λ r. ⌜ r ≡ targetOf info ⌝ }
 {
     SymbolIndex(symbol_or_none((info / 4294967296) as u32))
@@ -311,7 +311,7 @@ fn target(info: u64) -> SymbolIndex
 pub fn relocation_symbol(d: &[u8], t: &[u32], v: View, k: u32) -> SymbolIndex
     ensures { λ r. ⌜ r ≡ relocationSymbolAt (now (d .entry)) (now (t .entry)) v k ⌝ }
 {
-    target(relocation_info(d, t, v, k))
+    target_symbol(relocation_info(d, t, v, k))
 }
 
 // The first sixteen bytes of a REL or RELA entry.
@@ -321,7 +321,7 @@ pub fn relocation(d: &[u8], t: &[u32], v: View, k: u32) -> RelocationRecord
     let info = relocation_info(d, t, v, k);
     RelocationRecord {
         offset: relocation_offset(d, t, v, k),
-        symbol: target(info),
+        symbol: target_symbol(info),
         size: width(low(info)),
         reserved: 0,
     }

@@ -10,8 +10,8 @@ relocation-info-requires c κs = search needs
 relocation-offset-requires : tie.Need-relocation-offset-requires
 relocation-offset-requires c κs = search needs
 
-target-requires : tie.Need-target-requires
-target-requires c κs = search needs
+target-symbol-requires : tie.Need-target-symbol-requires
+target-symbol-requires c κs = search needs
 
 low-requires : tie.Need-low-requires
 low-requires c κs = search needs
@@ -29,7 +29,7 @@ relocation-spec =
     (tie.spec
     relocation-info-requires
     relocation-offset-requires
-    target-requires
+    target-symbol-requires
     low-requires
     width-requires
     returns)
