@@ -23,7 +23,7 @@ use Rattle.model.specs.Instruction.{invalidProgramCode}
 use Rattle.model.specs.ProgramName.{programOf, fromStr, sectionNumber}
 use Rattle.model.specs.SectionKind.{isKind, kindOf}
 use Rattle.model.specs.Symbols.{top, liesIn, symbolsOf, programSymbols, definedText, walkOf, firstNamed}
-use Rattle.model.specs.Contents.{isData, invalidMapDefinition, recordOf, programFunction, functionAt as functionOf}
+use Rattle.model.specs.Contents.{isData, invalidMapDefinition, recordOf, programOffset, programFunction, functionAt as functionOf}
 use Rattle.model.specs.Refusals.{untargeted, ofSection, ofSymbol, ofNumber, relocRefusal, licenceRefusal, versionRefusal, passes, isEmpty, programSymbolRefusal, programRefusal, mapSymbolRefusal, mapsRefusal, sharedRefusal, stopRefusal, textRefusal, kindRefusal, sectionRefusal, objectRefusal}
 use Rattle.model.specs.Table.{tableOf}
 use Rattle.stream.specs.Stream.{length-bytes}
@@ -98,9 +98,9 @@ not-unknown name s h = go (programOf name) h
     go none q = not-some _ q
     go (some v) q = refl
 
-not-past : (s : Section) (y : Symbol) → passes (s .bytes) y ≡ false → y .address + y .size ≤ length (s .bytes)
+not-past : (d : List ℕ) (at n : ℕ) → passes d at n ≡ false → at + n ≤ length d
 unfolding passes
-not-past s y h = ltb-false _ _ (both-false (ltb (length (s .bytes)) (y .address + y .size)) (ltb top (y .address + y .size)) h .0)
+not-past d at n h = ltb-false _ _ (both-false (ltb (length d) (at + n)) (ltb top (at + n)) h .0)
 
 has-target : (rs : List Reloc) → untargeted rs ≡ false → (x : Reloc) → x ∈ rs → isSome (x .symbol) ≡ true
 unfolding untargeted
@@ -228,9 +228,11 @@ module _ (d t : List ℕ) (v : View) (ok : objectRefusal (objectIn d t v) ≡ no
       → programSymbolRefusal (sec i) (at j) ≡ none → FunctionFits d t v j
   unfolding programSymbolRefusal programFunction functionOf invalidProgramCode symbolFrom
   program-fits i j l e b q f =
+      let start = programOffset (sec i) (at j) in
+      let beyond = passes (sec i .bytes) start (at j .size) in
       let low = ltb (at j .address) (sec i .address) in
-      let (u, z) = orElse-none (ofSymbol 10 (sec i) (at j) (passes (sec i .bytes) (at j) || low)) (ofSymbol 15 (sec i) (at j) (not (eqb (at j .size % 8) 0))) f in
-      let p : at j .address + at j .size ≤ length (sec i .bytes) = not-past (sec i) (at j) (both-false (passes (sec i .bytes) (at j)) low (refuse-none _ 10 (sec i .index) (at j .index) 0 u) .0) in
+      let (u, z) = orElse-none (ofSymbol 10 (sec i) (at j) (beyond || low)) (ofSymbol 15 (sec i) (at j) (not (eqb (at j .size % 8) 0))) f in
+      let p : start + at j .size ≤ length (sec i .bytes) = not-past (sec i .bytes) start (at j .size) (both-false beyond low (refuse-none _ 10 (sec i .index) (at j .index) 0 u) .0) in
       let w : symbolAt d t v j .address + symbolAt d t v j .size ≤ sectionAt d t v i .bytes .length = rw (data-length i) at p in
       record {
         symbol = b;
@@ -348,8 +350,8 @@ module _ (d t : List ℕ) (v : View) (ok : objectRefusal (objectIn d t v) ≡ no
     unfolding mapSymbolRefusal
     map-fits i j l b q f =
         let e : v .sections + j - v .sections ≡ j = omega arith in
-        let (u, z) = orElse-none (ofSymbol 10 (sec i) (at j) (passes (sec i .bytes) (at j))) (ofSymbol 16 (sec i) (at j) (invalidMapDefinition (at j .size) (recordOf (sec i) (at j)))) f in
-        let p : at j .address + at j .size ≤ length (sec i .bytes) = not-past (sec i) (at j) (refuse-none _ 10 (sec i .index) (at j .index) 0 u) in
+        let (u, z) = orElse-none (ofSymbol 10 (sec i) (at j) (passes (sec i .bytes) (at j .address) (at j .size))) (ofSymbol 16 (sec i) (at j) (invalidMapDefinition (at j .size) (recordOf (sec i) (at j)))) f in
+        let p : at j .address + at j .size ≤ length (sec i .bytes) = not-past (sec i .bytes) (at j .address) (at j .size) (refuse-none _ 10 (sec i .index) (at j .index) 0 u) in
         let w : symbolAt d t v j .address + symbolAt d t v j .size ≤ sectionAt d t v i .bytes .length = rw (data-length i, by-record j .0, by-record j .1) at p in
         record { number = omega arith; home = λ _. rw (e, q) l; within = λ _. rw (e, q) w }
 

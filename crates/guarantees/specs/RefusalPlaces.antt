@@ -25,7 +25,7 @@ use Rattle.model.specs.LicenceVersion.{parseLicense, licenseNumber, parseVersio
 use Rattle.model.specs.Instruction.{invalidProgramCode}
 use Rattle.model.specs.Catalogue.{Map}
 use Rattle.model.specs.Symbols.{liesIn, isProgram, symbolsOf, programSymbols, isText, definedText, symbolAt, Stop, stops, top, walkOf, firstNamed}
-use Rattle.model.specs.Contents.{invalidMapDefinition, recordOf, catalogueOf}
+use Rattle.model.specs.Contents.{programOffset, invalidMapDefinition, recordOf, catalogueOf}
 use Rattle.model.specs.Refusals.{noSection, noSymbol, ofSection, ofSymbol, ofEntry, ofNumber, isEmpty, untargeted, passes, relocRefusal, licenceRefusal, versionRefusal, programSymbolRefusal, programRefusal, mapSymbolRefusal, mapsRefusal, sharedRefusal, stopRefusal, textRefusal, kindRefusal, sectionRefusal, objectRefusal, bearers, placeRefusal, bearerRefusal, entryRefusal, patchRefusal, refusalOf}
 use Rattle.model.specs.Deposit.{frameOk, streamOk, objectOf, hasBtf, ofDeposit, depositRefusal}
 use Rattle.guarantees.specs.OptionsAndLists.{not-some, true-not-false, both-true}
@@ -199,7 +199,7 @@ module _ (o : Object) (ps : List Patch) where
   program-symbol-says : (s : Section) (y : Symbol) → s ∈ o .sections → y ∈ o .symbols → Says o ps (programSymbolRefusal s y)
   unfolding programSymbolRefusal
   program-symbol-says s y m k =
-      or-says (of-symbol 10 s y (passes (s .bytes) y || ltb (y .address) (s .address)) m k refl)
+      or-says (of-symbol 10 s y (passes (s .bytes) (programOffset s y) (y .size) || ltb (y .address) (s .address)) m k refl)
       (of-symbol 15 s y (invalidProgramCode (y .size)) m k refl)
 
   program-says : (s : Section) → s ∈ o .sections → Says o ps (programRefusal o s)
@@ -217,7 +217,7 @@ module _ (o : Object) (ps : List Patch) where
   map-symbol-says : (s : Section) (y : Symbol) → s ∈ o .sections → y ∈ o .symbols → Says o ps (mapSymbolRefusal s y)
   unfolding mapSymbolRefusal
   map-symbol-says s y m k =
-      or-says (of-symbol 10 s y (passes (s .bytes) y) m k refl) (of-symbol 16 s y (invalidMapDefinition (y .size) (recordOf s y)) m k refl)
+      or-says (of-symbol 10 s y (passes (s .bytes) (y .address) (y .size)) m k refl) (of-symbol 16 s y (invalidMapDefinition (y .size) (recordOf s y)) m k refl)
 
   maps-say : (s : Section) → s ∈ o .sections → Says o ps (mapsRefusal o s)
   unfolding mapsRefusal
@@ -292,9 +292,9 @@ module _ (o : Object) (ps : List Patch) where
     place-says : (ms : List Map) (y : Symbol) → Says o ps (placeRefusal ms e y)
     unfolding placeRefusal
     place-says ms y =
-        maybe-says (find (λ m. liesIn (m .section) (y .section)) ms) (ofEntry 22 e true) (λ m. ofEntry 23 e (passes (m .own) y))
+        maybe-says (find (λ m. liesIn (m .section) (y .section)) ms) (ofEntry 22 e true) (λ m. ofEntry 23 e (passes (m .own) (y .address) (y .size)))
         (of-entry 22 e true low high refl)
-        (λ m q. of-entry 23 e (passes (m .own) y) low high refl)
+        (λ m q. of-entry 23 e (passes (m .own) (y .address) (y .size)) low high refl)
 
     bearer-says : (ms : List Map) (p : Patch) (ys : List Symbol) → Says o ps (bearerRefusal ms e p ys)
     unfolding bearerRefusal

@@ -27,7 +27,7 @@ mapNumbers sections js = map (λ j. sections + j) js
 module _ (d : List ℕ) (v : View) (s : SectionRecord) where
   unfoldable pub mapFault : SymbolRecord → ℕ
   mapFault y =
-      cond (pastData (s .bytes .length) y) 10
+      cond (pastData (s .bytes .length) (y .address) (y .size)) 10
       (cond (invalidMapDefinition (y .size) (wordsOf (part (dataIn d v (s .bytes)) (y .address) (y .size)))) 16 0)
 
   -- by the tests that are made
@@ -63,8 +63,8 @@ module _ (d t : List ℕ) (v : View) (s : SectionRecord) where
     by-fault : refusalBy y ≡ faultOf (mapFault d v s y) (s .index) (y .index)
     unfolding mapSymbolRefusal recordOf sectionFrom symbolFrom mapFault
     by-fault =
-        rw (past-by-record d t v s y)
-        (go (pastData (s .bytes .length) y) (invalidMapDefinition (y .size) (wordsOf (part (dataIn d v (s .bytes)) (y .address) (y .size)))))
+        rw (past-by-record d t v s (y .address) (y .size))
+        (go (pastData (s .bytes .length) (y .address) (y .size)) (invalidMapDefinition (y .size) (wordsOf (part (dataIn d v (s .bytes)) (y .address) (y .size)))))
       where
         go : (a b : Bool) → orElse (refuse a 10 (s .index) (y .index) 0) (refuse b 16 (s .index) (y .index) 0) ≡ faultOf (cond a 10 (cond b 16 0)) (s .index) (y .index)
         go true b = refl

@@ -77,7 +77,7 @@ module _ (d t : List ℕ) (v : View) where
     -- ---- the symbol's place
 
     module _ (y : SymbolRecord) (e : ℕ) where
-      own-past : (m : Map) → passes (m .own) (symbolFrom d t v y) ≡ past (length (m .own)) (y .address) (y .size)
+      own-past : (m : Map) → passes (m .own) (symbolFrom d t v y .address) (symbolFrom d t v y .size) ≡ past (length (m .own)) (y .address) (y .size)
       unfolding symbolFrom passes
       own-past m = refl
 

@@ -21,15 +21,15 @@ use Rattle.view.specs.View.{sectionFrom, symbolFrom, namedText, program-by-reco
 
 unfoldable pub programFault : SectionRecord → SymbolRecord → ℕ
 programFault s y =
-    cond (pastData (s .bytes .length) y || ltb (y .address) (s .address)) 10
+    cond (pastData (s .bytes .length) (y .address) (y .size) || ltb (y .address) (s .address)) 10
     (cond (invalidProgramCode (y .size)) 15 0)
 
 pub program-by-fault : (d t : List ℕ) (v : View) (s : SectionRecord) (y : SymbolRecord)
     → programSymbolRefusal (sectionFrom d t v s) (symbolFrom d t v y) ≡ faultOf (programFault s y) (s .index) (y .index)
 unfolding programSymbolRefusal sectionFrom symbolFrom programFault
 program-by-fault d t v s y =
-    rw (past-by-record d t v s y)
-    (go (pastData (s .bytes .length) y || ltb (y .address) (s .address)) (invalidProgramCode (y .size)))
+    rw (past-by-record d t v s (y .address) (y .size))
+    (go (pastData (s .bytes .length) (y .address) (y .size) || ltb (y .address) (s .address)) (invalidProgramCode (y .size)))
   where
     go : (a b : Bool) → orElse (refuse a 10 (s .index) (y .index) 0) (refuse b 15 (s .index) (y .index) 0) ≡ faultOf (cond a 10 (cond b 15 0)) (s .index) (y .index)
     go true b = refl
@@ -41,7 +41,7 @@ program-by-fault d t v s y =
 module _ (s : SectionRecord) (y : SymbolRecord) where
   pub fault-below : y .address < s .address → programFault s y ≡ 10
   unfolding programFault
-  fault-below l = go (pastData (s .bytes .length) y)
+  fault-below l = go (pastData (s .bytes .length) (y .address) (y .size))
     where
       go : (b : Bool) → _≡_ {A = ℕ} (cond (b || ltb (y .address) (s .address)) 10 (cond (invalidProgramCode (y .size)) 15 0)) 10
       go true = refl

@@ -24,9 +24,9 @@ use Rattle.records.specs.View.{gapOf}
 use Rattle.stream.specs.Stream.{length-bytes}
 use Rattle.view.specs.View.{sectionFrom, symbolFrom, sectionIn, symbolIn, objectIn}
 
--- 'address plus size passes the data or 2^64 - 1'
-abbrev pub pastData : ℕ → SymbolRecord → Bool
-pastData n y = ltb n (y .address + y .size) || ltb top (y .address + y .size)
+-- 'address plus size passes the data or 2^64 - 1': so many bytes from an offset on do
+abbrev pub pastData : ℕ → ℕ → ℕ → Bool
+pastData n offset size = ltb n (offset + size) || ltb top (offset + size)
 
 module _ (d t : List ℕ) (v : View) where
   -- the numbers of a section's symbols
@@ -55,9 +55,9 @@ module _ (d t : List ℕ) (v : View) where
   some-symbol [] l = absurd (not-suc-le-zero l)
   some-symbol (j ∷ js) l = refl
 
-  pub past-by-record : (s : SectionRecord) (y : SymbolRecord) → passes (sectionFrom d t v s .bytes) (symbolFrom d t v y) ≡ pastData (s .bytes .length) y
-  unfolding passes sectionFrom symbolFrom
-  past-by-record s y = rw (length-bytes d (gapOf v) (v .at .bytes + s .bytes .at) (s .bytes .length))
+  pub past-by-record : (s : SectionRecord) (offset size : ℕ) → passes (sectionFrom d t v s .bytes) offset size ≡ pastData (s .bytes .length) offset size
+  unfolding passes sectionFrom
+  past-by-record s offset size = rw (length-bytes d (gapOf v) (v .at .bytes + s .bytes .at) (s .bytes .length))
 
 -- the refusal that a number other than 0 stands for
 abbrev pub faultOf : ℕ → SectionIndex → SymbolIndex → Option Refusal
