@@ -4,18 +4,16 @@ ghost use mathlib.Core.List.{_++_};
 ghost use Prim.Native.Nat.{_+_, _^_, _<_, _≤_};
 ghost use lib.ListN.{length, take, drop};
 ghost use Rattle.model.specs.Bytes.{each};
-ghost use Rattle.model.specs.declared.EbpfSectionKind.{EbpfSectionKind as Kind};
-ghost use Rattle.model.specs.SectionKind.{isKind};
 ghost use Rattle.records.specs.Readable.{Readable};
 ghost use Rattle.own.specs.Own.{ownOf, ownBytes};
 use lists::zero8;
-use model::EbpfSectionKind;
 use model::Extent;
 use object_view::View;
 use pieces::copy_stream;
 use records::data_place;
 use records::gap;
 use records::section;
+use section_kind::is_bss;
 use stream::size;
 use view::kind_of;
 
@@ -24,15 +22,6 @@ pub enum Own {
     Nothing,
     Zeros(usize),
     Bytes(Extent),
-}
-
-fn is_bss(kind: EbpfSectionKind) -> bool
-    ensures { λ r. ⌜ r ≡ isKind Kind.Bss kind ⌝ }
-{
-    match kind {
-        EbpfSectionKind::Bss => true,
-        _ => false,
-    }
 }
 
 // A number below the count of sections is a section's; a symbol's map owns nothing.
