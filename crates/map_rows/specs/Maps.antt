@@ -16,7 +16,6 @@ use Rattle.stream.specs.Stream.{bytesAt, length-bytes}
 use Rattle.stream.specs.Laws.{part-bytes}
 use Rattle.records.specs.View.{gapOf, sectionAt, symbolAt}
 use Rattle.view.specs.View.{sectionFrom, symbolFrom, sectionIn, symbolIn}
-use Rattle.owner.specs.Owner.{homeOf, home-by-record}
 use Rattle.own.specs.Own.{ownBytes}
 use Rattle.catalogue.specs.Numbers.{homeAt, mapAt}
 use Rattle.map_rows.specs.declared.Row.{Row}
@@ -46,10 +45,10 @@ module _ (d t : List ℕ) (v : View) where
   unfolding rowOf dataMap sectionFrom
   data-is n s l e = rw (map-data n l, e, length-bytes)
 
-  module _ (j : ℕ) (y : SymbolRecord) (s : SectionRecord) (ey : y ≡ symbolAt d t v j) (es : s ≡ sectionAt d t v (homeOf d t v y)) where
+  module _ (j : ℕ) (y : SymbolRecord) (s : SectionRecord) (ey : y ≡ symbolAt d t v j) (es : s ≡ sectionAt d t v (homeAt d t v j)) where
     -- what was read lies in the data too
     pub within-by : Within j → y .address + y .size ≤ s .bytes .length
-    within-by w = rw (es, ey, ← home-by-record d t v j) w
+    within-by w = rw (es, ey) w
 
     pub legacy-is : Within j
         → rowBy (y .name .length) (s .index .0) (kindNumber Kind.Maps) (y .index .0) 0 (wordsOf (bytesAt d (gapOf v) (v .at .bytes + s .bytes .at + y .address) (y .size)))
@@ -57,6 +56,6 @@ module _ (d t : List ℕ) (v : View) where
     unfolding rowOf legacyMap recordOf sectionFrom symbolFrom
     legacy-is w =
         let b : SymbolRecord = symbolAt d t v j in
-        let x : SectionRecord = sectionAt d t v (homeOf d t v b) in
+        let x : SectionRecord = sectionAt d t v (homeAt d t v j) in
         let u : b .address + b .size ≤ x .bytes .length = w in
         rw (es, ey, length-bytes, part-bytes d (gapOf v) (v .at .bytes + x .bytes .at) (x .bytes .length) (b .address) (b .size) u)

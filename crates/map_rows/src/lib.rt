@@ -17,12 +17,11 @@ use model::BpfMapDef;
 use model::EbpfSectionKind;
 use object_view::View;
 use own::own_length;
-use owner::home;
+use owner::member_at;
 use program_rows::put7;
 use records::data_place;
 use records::gap;
 use records::section;
-use records::symbol;
 use stream::size;
 use stream::wide64;
 use view::kind_of;
@@ -78,8 +77,9 @@ fn legacy_row(d: &[u8], t: &[u32], v: View, j: u32) -> Row
     requires { ⌜ Readable (now d) (now t) v × Within (now d) (now t) v j ⌝ }
     ensures { λ r. ⌜ Read (legacyAt (now (d .entry)) (now (t .entry)) v j) r ⌝ }
 {
-    let y = symbol(d, t, v, j);
-    let s = section(d, t, v, home(d, t, v, y));
+    let m = member_at(d, t, v, j);
+    let y = m.symbol;
+    let s = m.section;
     let at = data_place(v, s.bytes) + y.address as usize;
     Row {
         length: size(y.name.length),

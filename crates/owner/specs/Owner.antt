@@ -1,14 +1,15 @@
 -- The number of the section that has an index, and of the one that a symbol lies in: `owner` and `home` of a deposit's records.
 use mathlib.Core.Path.{_≡_, refl}
-use mathlib.Core.Bool.{Bool, true, false}
+use mathlib.Core.Bool.{Bool, true, false, _&&_}
 use mathlib.Core.List.{List}
 use mathlib.Core.Logic.{⊎-elim}
 use mathlib.Core.Option.{Option, none, some}
 use Prim.Native.Nat.{ℕ, _+_, _<_, _≤_}
 use native.Mathlib.Nat.{le-refl, eq-or-lt-of-le, lt-trans, le-trans, le-of-lt}
 use native.Mathlib.Omega.{arith}
-use borrow.Author.Tests.{eq-eqb, ne-eqb, ltb-true, ltb-false}
+use borrow.Author.Tests.{eqb-true, eq-eqb, ne-eqb, ltb-true, ltb-false, lt-ltb}
 use lib.Dec.{eqb, ltb}
+use Rattle.lists.specs.Tests.{true-not-false, both-true}
 use Rattle.object_view.specs.declared.View.{View}
 use Rattle.model.specs.declared.SymbolRecord.{SymbolRecord}
 use Rattle.model.specs.Bytes.{maybe}
@@ -34,6 +35,10 @@ module _ (d t : List ℕ) (v : View) where
     pub below : (i : ℕ) → i < r → sectionAt d t v i .index .0 < k
     pub above : (i : ℕ) → r ≤ i → i < v .sections → k ≤ sectionAt d t v i .index .0
 
+  -- section record i has index k
+  abbrev pub hasIndex : ℕ → ℕ → Bool
+  hasIndex k i = ltb i (v .sections) && eqb (sectionAt d t v i .index .0) k
+
   -- what holds of record m's index holds of those below it, or of those above
   module _ (rise : SectionsRise d t v) (k m : ℕ) where
     pub all-below : m < v .sections → sectionAt d t v m .index .0 < k → (i : ℕ) → i < m + 1 → sectionAt d t v i .index .0 < k
@@ -51,7 +56,10 @@ module _ (d t : List ℕ) (v : View) where
   abbrev pub homeOf : SymbolRecord → ℕ
   homeOf y = maybe (unlessNone (y .section .0) (y .section)) 0 (λ k. maybe (ownerIn (k .0)) 0 (λ i. i))
 
-  pub home-by-record : (j : ℕ) → home (v .order) (sectionIn d t v) (v .sections) (symbolIn d t v) (v .symbols) j ≡ homeOf (symbolAt d t v j)
+  abbrev pub homeIn : ℕ → ℕ
+  homeIn j = home (v .order) (sectionIn d t v) (v .sections) (symbolIn d t v) (v .symbols) j
+
+  pub home-by-record : (j : ℕ) → homeIn j ≡ homeOf (symbolAt d t v j)
   unfolding symbolFrom
   home-by-record j = refl
 
@@ -66,12 +74,20 @@ module _ (d t : List ℕ) (v : View) where
       (λ i l. ne-eqb (sectionAt d t v i .index .0) k (n i l))
 
   module _ (rise : SectionsRise d t v) (k r : ℕ) where
-    pub found : r < v .sections → sectionAt d t v r .index .0 ≡ k → ownerOf (ownerIn k) ≡ Owner.Section r
-    found l e = rw (← e, owned rise r l)
+    found-at : r < v .sections → sectionAt d t v r .index .0 ≡ k → ownerOf (ownerIn k) ≡ Owner.Section r
+    found-at l e = rw (← e, owned rise r l)
 
-    pub not-found : First k r → (r < v .sections → sectionAt d t v r .index .0 ≡ k → ⊥) → ownerOf (ownerIn k) ≡ Owner.Nobody
-    not-found f n = rw (nobody k none-has)
+    pub found : hasIndex k r ≡ true → ownerOf (ownerIn k) ≡ Owner.Section r
+    found h =
+        let (l, e) = both-true (ltb r (v .sections)) (eqb (sectionAt d t v r .index .0) k) h in
+        found-at (ltb-true r (v .sections) l) (eqb-true (sectionAt d t v r .index .0) k e)
+
+    pub not-found : First k r → hasIndex k r ≡ false → ownerOf (ownerIn k) ≡ Owner.Nobody
+    not-found f h = rw (nobody k none-has)
       where
+        n : r < v .sections → sectionAt d t v r .index .0 ≡ k → ⊥
+        n l e = true-not-false (rw (lt-ltb r (v .sections) l, eq-eqb (sectionAt d t v r .index .0) k e) at h)
+
         none-has : (i : ℕ) → i < v .sections → sectionAt d t v i .index .0 ≡ k → ⊥
         none-has i l e = go (ltb i r) refl
           where

@@ -17,8 +17,7 @@ use Rattle.stream.specs.Stream.{length-bytes}
 use Rattle.records.specs.View.{nameIn, sectionAt, symbolAt}
 use Rattle.plan.specs.Placed.{each-longer, rowAt, placed-sets}
 use Rattle.view.specs.View.{sectionFrom, symbolFrom}
-use Rattle.owner.specs.Owner.{homeOf, home-by-record}
-use Rattle.catalogue.specs.Numbers.{programAt}
+use Rattle.catalogue.specs.Numbers.{homeAt, programAt}
 use Rattle.program_section.specs.declared.Variant.{Variant}
 use Rattle.program_section.specs.Found.{variantIn}
 use Rattle.program_rows.specs.declared.Row.{Row}
@@ -54,12 +53,12 @@ module _ (d t : List ℕ) (v : View) where
   nameOf j = programName (programAt d t v j)
 
   -- the row of a symbol, by its record and that of its section
-  pub row-is : (j : ℕ) (y : SymbolRecord) (s : SectionRecord) (w : Variant) (r : Row) → y ≡ symbolAt d t v j → s ≡ sectionAt d t v (homeOf d t v y)
+  pub row-is : (j : ℕ) (y : SymbolRecord) (s : SectionRecord) (w : Variant) (r : Row) → y ≡ symbolAt d t v j → s ≡ sectionAt d t v (homeAt d t v j)
       → w ≡ variantIn (nameIn d v (s .name))
       → r ≡ record { length = y .name .length; number = w .number; first = w .first; second = w .second; section = s .index .0; address = y .address }
       → r ≡ rowOf (programAt d t v j)
   unfolding rowOf programOfSymbol sectionFrom symbolFrom
-  row-is j y s w r ey es ew er = er ∙ rw (ew, es, ey, length-bytes, home-by-record d t v j)
+  row-is j y s w r ey es ew er = er ∙ rw (ew, es, ey, length-bytes)
 
   -- the row of the next number
   module _ (order : List ℕ) (at k place : ℕ) (r : Row) (read : r ≡ rowOf (programAt d t v (getD order k 0))) (before : place ≡ at + length (each nameOf (take k order))) where

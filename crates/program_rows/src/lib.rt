@@ -8,12 +8,10 @@ ghost use Rattle.catalogue.specs.Numbers.{programAt};
 ghost use Rattle.records.specs.Readable.{Readable};
 ghost use Rattle.program_rows.specs.Rows.{rowOf, programRows};
 use object_view::View;
-use owner::home;
+use owner::member_at;
 use program_section::variant_numbers;
 use records::gap;
 use records::name_at;
-use records::section;
-use records::symbol;
 use stream::size;
 use stream::wide64;
 
@@ -32,8 +30,9 @@ fn program_row(d: &[u8], t: &[u32], v: View, j: u32) -> Row
     requires { ⌜ Readable (now d) (now t) v ⌝ }
     ensures { λ r. ⌜ (r ≡ rowOf (programAt (now (d .entry)) (now (t .entry)) v j)) × (r .length < 2 ^ 32) ⌝ }
 {
-    let y = symbol(d, t, v, j);
-    let s = section(d, t, v, home(d, t, v, y));
+    let m = member_at(d, t, v, j);
+    let y = m.symbol;
+    let s = m.section;
     let name = name_at(v, s.name);
     let variant = variant_numbers(d, gap(v), name, size(s.name.length));
     Row {

@@ -6,14 +6,8 @@ use borrow.Author.Needs.{needs}
 use Rattle.program_rows.proofs.program_row.Statement.{statement}
 use Rattle.program_rows.proofs.program_row.Tie as tie
 
-symbol-requires : tie.Need-symbol-requires
-symbol-requires c κs = search needs
-
-home-requires : tie.Need-home-requires
-home-requires c κs = search needs
-
-section-requires : tie.Need-section-requires
-section-requires c κs = search needs
+member-at-requires : tie.Need-member-at-requires
+member-at-requires c κs = search needs
 
 name-at-requires : tie.Need-name-at-requires
 name-at-requires c κs = search needs
@@ -39,11 +33,9 @@ returns c =
     let n = c .before .before .before .size in
     let g = c .before .before .before .before .gap in
     let w = c .before .before .before .before .before .name-at in
-    let s = c .before .before .before .before .before .before .section in
-    let o = c .before .before .before .before .before .before .before .home in
-    let y = c .before .before .before .before .before .before .before .before .symbol in
+    let m = c .before .before .before .before .before .before .before .before .member-at in
     let a = c .before .before .before .before .before .before .before .before .before .before .before .args in (
-      row-is (now (a .d)) (now (a .t)) (a .v) (a .j) (y .result) (s .result) (v .result) _ (y .ensures) (s .ensures ∙ rw (o .ensures))
+      row-is (now (a .d)) (now (a .t)) (a .v) (a .j) (m .result .symbol) (m .result .section) (v .result) _ (m .ensures .0) (m .ensures .1)
           (v .ensures ∙ rw (n .ensures .0, g .ensures .0, w .ensures .0)) (rw (c .before .size2 .ensures .0, c .wide64 .ensures .0)),
       c .before .size2 .ensures .1,
     )
@@ -52,9 +44,7 @@ pub program-row-spec : {M : Type 1} → statement M
 program-row-spec =
     tie.close
     (tie.spec
-    symbol-requires
-    home-requires
-    section-requires
+    member-at-requires
     name-at-requires
     gap-requires
     size-requires
