@@ -5,20 +5,17 @@ use mathlib.Core.List.{List}
 use mathlib.Core.Option.{none}
 use Prim.Native.Nat.{ℕ, _-_}
 use lib.Dec.{ltb}
-use Rattle.lists.specs.Tab.{tab}
-use Rattle.model.specs.declared.EbpfSectionKind.{EbpfSectionKind as Kind}
 use Rattle.object_view.specs.declared.View.{View}
 use Rattle.model.specs.Bytes.{each}
 use Rattle.model.specs.Catalogue.{Catalogue}
-use Rattle.model.specs.SectionKind.{isKind, kindOf}
-use Rattle.model.specs.Contents.{dataMap, legacyMap, licenceOf, catalogueOf, programAt as programOf, functionAt as functionOf, programFunction}
+use Rattle.model.specs.Contents.{dataMap, legacyMap, licenceOf, catalogueOf, programAt as programOf, functionAt as functionOf}
 use Rattle.model.specs.Lent.{sectionName, programName, functionName, functionCode, mapName, mapOwn}
 use Rattle.model.specs.Refusals.{objectRefusal}
 use Rattle.plan.specs.Numbers.{each-map}
 use Rattle.plan.specs.FunctionsMaps.{mapOf, mapName as mapKeyName}
-use Rattle.plan.specs.Walk.{textFunctionOf}
 use Rattle.view.specs.View.{sectionIn, symbolIn, objectIn}
-use Rattle.catalogue.specs.Numbers.{homeAt, sectionNumbers, programNumbers, functionNumbers, mapNumbers, entryAt, programAt, functionAt, mapAt, sections-by, programs-by, functions-by, maps-by}
+use Rattle.catalogue.specs.Function.{function-is}
+use Rattle.catalogue.specs.Numbers.{sectionNumbers, programNumbers, functionNumbers, mapNumbers, entryAt, programAt, functionAt, mapAt, sections-by, programs-by, functions-by, maps-by}
 use Rattle.accepted.specs.Numbers.{named}
 use Rattle.records.specs.Readable.{Readable}
 use Rattle.pieces.specs.declared.Piece.{Piece}
@@ -45,15 +42,8 @@ module _ (d t : List ℕ) (v : View) where
         ∙ ap (λ (g : ℕ → List ℕ). each g (programNumbers d t v)) (λ k j. sym (symbol-piece d t v j) k)
 
     name-of-function : (j : ℕ) → functionName (functionAt d t v j) ≡ symbolIn d t v j .name
-    unfolding functionOf programFunction textFunctionOf
-    name-of-function j = go (isKind Kind.Program (kindOf (sectionIn d t v (homeAt d t v j))))
-      where
-        go : (b : Bool)
-            → functionName (cond b (programFunction (sectionIn d t v (homeAt d t v j)) (symbolIn d t v j))
-            (textFunctionOf (v .order) (tab (sectionIn d t v) (v .sections)) (symbolIn d t v) (v .symbols) (sectionIn d t v (homeAt d t v j)) j))
-            ≡ symbolIn d t v j .name
-        go true = refl
-        go false = refl
+    unfolding functionOf
+    name-of-function j = ap functionName (function-is d t v j)
 
     pub function-names : each functionName (catalogue .functions) ≡ each (pieceOf Piece.SymbolName d t v) (functionNumbers d t v)
     function-names =

@@ -1,75 +1,48 @@
 -- A function's code, by its symbol's number: as many bytes of its section's data as the symbol's size says.
-use mathlib.Core.Path.{_≡_, refl, sym, ap, _∙_}
-use mathlib.Core.Bool.{Bool, true, false, cond}
+use mathlib.Core.Path.{_≡_, sym, ap, _∙_}
 use mathlib.Core.List.{List}
-use Prim.Native.Nat.{ℕ, zero, suc, _+_, _-_, _*_, _/_, _^_, _<_, _≤_}
+use Prim.Native.Nat.{ℕ, zero, suc, _+_, _*_, _/_, _^_, _<_, _≤_}
 use native.Mathlib.Nat.{le-trans}
 use native.Mathlib.Omega.{arith}
 use lib.ListN.{length, getD}
-use Rattle.lists.specs.Tab.{tab}
 use Rattle.object_view.specs.declared.View.{View}
 use Rattle.model.specs.declared.SectionRecord.{SectionRecord}
 use Rattle.model.specs.declared.SymbolRecord.{SymbolRecord}
-use Rattle.model.specs.declared.EbpfSectionKind.{EbpfSectionKind as Kind}
 use Rattle.model.specs.Bytes.{each, part, AllBytes}
 use Rattle.model.specs.Catalogue.{Function}
-use Rattle.model.specs.Contents.{functionAt as functionOf, programFunction}
+use Rattle.model.specs.Contents.{functionAt as functionOf}
 use Rattle.model.specs.Instruction.{instructions, eight}
 use Rattle.model.specs.Lent.{functionCode}
-use Rattle.model.specs.SectionKind.{isKind, kindOf}
 use Rattle.encoding.specs.Code.{code-is}
 use Rattle.stream.specs.Stream.{place, byteAt, bytesAt, length-bytes}
 use Rattle.stream.specs.Laws.{part-bytes, place-mono}
-use Rattle.records.specs.View.{gapOf, sectionAt, symbolAt, dataIn}
+use Rattle.records.specs.View.{gapOf, symbolAt, dataIn}
 use Rattle.records.specs.Readable.{DataFits, Readable}
-use Rattle.plan.specs.Walk.{textFunctionOf}
-use Rattle.view.specs.View.{sectionFrom, symbolFrom, sectionIn, symbolIn}
-use Rattle.owner.specs.Owner.{homeOf, home-by-record}
+use Rattle.view.specs.Offset.{codeOffset}
+use Rattle.view.specs.View.{sectionFrom, symbolFrom}
 use Rattle.catalogue.specs.Numbers.{homeAt, functionAt}
 use Rattle.catalogue.specs.Fits.{FunctionFits}
+use Rattle.catalogue.specs.Function.{sectionOf, startOf, function-is}
 
 module _ (d t : List ℕ) (v : View) where
   abbrev pub codeAt : ℕ → List ℕ
   codeAt j = functionCode (functionAt d t v j)
 
-  -- where it begins in the data of its section
-  unfoldable pub offsetIn : SectionRecord → SymbolRecord → ℕ
-  offsetIn s y = cond (isKind Kind.Program (kindOf (sectionFrom d t v s))) (y .address) (y .address - s .address)
-
   -- the first n numbers of a table are functions that fit their sections
   abbrev pub AllFit : List ℕ → ℕ → Type 0
   AllFit order n = (k : ℕ) → k < n → FunctionFits d t v (getD order k 0)
 
-  -- the record of a function's section
-  abbrev pub sectionOf : ℕ → SectionRecord
-  sectionOf j = sectionAt d t v (homeAt d t v j)
-
-  abbrev pub startOf : ℕ → ℕ
-  startOf j = offsetIn (sectionOf j) (symbolAt d t v j)
-
-  function-is : (j : ℕ) → functionAt d t v j ≡ functionOf (sectionIn d t v (homeAt d t v j)) (symbolIn d t v j .address) (startOf j) (symbolIn d t v j)
-  unfolding offsetIn programFunction textFunctionOf sectionFrom symbolFrom
-  function-is j = go (isKind Kind.Program (kindOf (sectionIn d t v (homeAt d t v j))))
-    where
-      go : (b : Bool)
-          → cond b (programFunction (sectionIn d t v (homeAt d t v j)) (symbolIn d t v j))
-          (textFunctionOf (v .order) (tab (sectionIn d t v) (v .sections)) (symbolIn d t v) (v .symbols) (sectionIn d t v (homeAt d t v j)) j)
-          ≡ functionOf (sectionIn d t v (homeAt d t v j)) (symbolIn d t v j .address)
-          (cond b (symbolAt d t v j .address) (symbolAt d t v j .address - sectionOf j .address)) (symbolIn d t v j)
-      go true = refl
-      go false = refl
-
-  pub offset-is : (j : ℕ) → functionAt d t v j .offset ≡ startOf j
+  offset-is : (j : ℕ) → functionAt d t v j .offset ≡ startOf d t v j
   unfolding functionOf
-  offset-is j = ap (λ (f : Function). f .offset) (function-is j)
+  offset-is j = ap (λ (f : Function). f .offset) (function-is d t v j)
 
   -- its bytes in the data
   abbrev pub bytesOf : ℕ → List ℕ
-  bytesOf j = part (dataIn d v (sectionOf j .bytes)) (startOf j) (symbolAt d t v j .size)
+  bytesOf j = part (dataIn d v (sectionOf d t v j .bytes)) (startOf d t v j) (symbolAt d t v j .size)
 
   pub code-read : (j : ℕ) → functionAt d t v j .code ≡ instructions (symbolAt d t v j .size / 8) (bytesOf j)
   unfolding functionOf sectionFrom symbolFrom
-  code-read j = ap (λ (f : Function). f .code) (function-is j)
+  code-read j = ap (λ (f : Function). f .code) (function-is d t v j)
 
 -- the code of function j lies in the data of section s, from offset o on
 pub record Found (d t : List ℕ) (v : View) (j : ℕ) (s : SectionRecord) (o : ℕ) (y : SymbolRecord) : Type 0 where
@@ -128,8 +101,5 @@ module _ (d t : List ℕ) (v : View) (j : ℕ) (fits : FunctionFits d t v j) whe
             placed = le-trans (place-mono (gapOf v) _ _ end) (of-data .placed);
           }
 
-      pub found : (y : SymbolRecord) (i : ℕ) (s : SectionRecord) (o : ℕ) → y ≡ symbolAt d t v j → i ≡ homeOf d t v y → s ≡ sectionAt d t v i → o ≡ offsetIn d t v s y
-          → Found d t v j s o y
-      found y i s o ey ei es eo =
-          let q : s ≡ sectionOf d t v j = es ∙ ap (sectionAt d t v) (ei ∙ ap (homeOf d t v) ey ∙ sym (home-by-record d t v j)) in
-          rw (eo, q, ey) is-found
+      pub found : (y : SymbolRecord) (s : SectionRecord) (o : ℕ) → y ≡ symbolAt d t v j → s ≡ sectionOf d t v j → o ≡ codeOffset d t v s y → Found d t v j s o y
+      found y s o ey es eo = rw (eo, es, ey) is-found

@@ -3,23 +3,17 @@ ghost use mathlib.Core.Path.{_≡_};
 ghost use mathlib.Core.List.{_++_};
 ghost use Prim.Native.Nat.{_+_, _≤_};
 ghost use lib.ListN.{length, take, drop};
-ghost use Rattle.model.specs.declared.EbpfSectionKind.{EbpfSectionKind as Kind};
 ghost use Rattle.model.specs.Bytes.{each};
-ghost use Rattle.model.specs.SectionKind.{isKind};
 ghost use Rattle.records.specs.Readable.{Readable};
 ghost use Rattle.catalogue.specs.Fits.{FunctionFits};
-ghost use Rattle.code.specs.Code.{codeAt, offsetIn, AllFit};
-use model::EbpfSectionKind;
-use model::SectionRecord;
-use model::SymbolRecord;
+ghost use Rattle.code.specs.Code.{codeAt, AllFit};
 use object_view::View;
-use owner::home;
+use owner::member_at;
 use pieces::copy_stream;
 use records::data_place;
 use records::gap;
-use records::section;
 use records::symbol;
-use view::kind_of;
+use view::code_offset;
 
 // How many bytes of code the functions of the first n numbers have.
 pub fn total(d: &[u8], t: &[u32], v: View, order: &[u32], n: usize) -> usize
@@ -36,37 +30,15 @@ pub fn total(d: &[u8], t: &[u32], v: View, order: &[u32], n: usize) -> usize
     sum
 }
 
-fn is_program(kind: EbpfSectionKind) -> bool
-    ensures { λ r. ⌜ r ≡ isKind Kind.Program kind ⌝ }
-{
-    match kind {
-        EbpfSectionKind::Program => true,
-        _ => false,
-    }
-}
-
-// Where a function's code begins in the data of its section: a program's at its address, text's at its address past that of the section.
-fn offset(d: &[u8], t: &[u32], v: View, s: SectionRecord, y: SymbolRecord) -> u64
-    ensures { λ r. ⌜ r ≡ offsetIn (now (d .entry)) (now (t .entry)) v s y ⌝ }
-{
-    let start = s.address;
-    if is_program(kind_of(d, t, v, s)) {
-        y.address
-    } else if start < y.address {
-        y.address - start
-    } else {
-        0
-    }
-}
-
 // The code of the function of symbol j into out, from `at` on; where it ends.
 fn put_code(d: &[u8], t: &[u32], v: View, j: u32, out: &mut [u8], at: usize) -> usize
     requires { ⌜ Readable (now d) (now t) v × FunctionFits (now d) (now t) v j × (at + length (codeAt (now d) (now t) v j) ≤ length (now out)) ⌝ }
     ensures { λ r. ⌜ (r ≡ at + length (codeAt (now (d .entry)) (now (t .entry)) v j)) × (now (out .exit) ≡ take at (now (out .entry)) ++ (codeAt (now (d .entry)) (now (t .entry)) v j ++ drop r (now (out .entry)))) ⌝ }
 {
-    let y = symbol(d, t, v, j);
-    let s = section(d, t, v, home(d, t, v, y));
-    let start = offset(d, t, v, s, y) as usize;
+    let m = member_at(d, t, v, j);
+    let y = m.symbol;
+    let s = m.section;
+    let start = code_offset(d, t, v, s, y) as usize;
     let len = y.size as usize;
     copy_stream(d, gap(v), data_place(v, s.bytes) + start, len, out, at);
     at + len

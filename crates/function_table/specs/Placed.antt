@@ -1,6 +1,5 @@
 -- The rows that are stored are the catalogue's, behind which the table is filled with zeros.
 use mathlib.Core.Path.{_≡_, refl, sym, ap, _∙_}
-use mathlib.Core.Bool.{Bool, true, false, cond}
 use mathlib.Core.List.{List, [], _∷_, map}
 use mathlib.Core.Logic.{⊎-elim}
 use Prim.Native.Nat.{ℕ, zero, suc, _+_, _-_, _*_, _/_, _^_, _<_, _≤_, min}
@@ -9,28 +8,24 @@ use native.Mathlib.Omega.{arith}
 use borrow.Author.Tests.{lt-ltb}
 use lib.ListN.{length, getD, take, drop, length-append, drop-of-length-le}
 use lib.Seq.{drop-cons, getD-take, length-take-le}
-use Rattle.lists.specs.Tab.{tab}
-use Rattle.model.specs.declared.EbpfSectionKind.{EbpfSectionKind as Kind}
 use Rattle.model.specs.declared.Function.{Function as FunctionRow}
 use Rattle.model.specs.declared.SectionRecord.{SectionRecord}
 use Rattle.model.specs.declared.SymbolRecord.{SymbolRecord}
 use Rattle.model.specs.Bytes.{each}
 use Rattle.model.specs.Catalogue.{Function}
-use Rattle.model.specs.Contents.{functionAt, programFunction}
+use Rattle.model.specs.Contents.{functionAt}
 use Rattle.model.specs.Instruction.{instructions}
 use Rattle.model.specs.Lent.{functionName, functionCode, functionRow, placed, range, filled, zeroRow}
-use Rattle.model.specs.SectionKind.{isKind, kindOf}
 use Rattle.model.specs.Symbols.{top}
 use Rattle.stream.specs.Stream.{length-bytes}
 use Rattle.insn.specs.Sanitized.{length-each-eight}
 use Rattle.object_view.specs.declared.View.{View}
-use Rattle.records.specs.View.{gapOf, sectionAt, symbolAt}
-use Rattle.plan.specs.Walk.{textFunctionOf}
-use Rattle.view.specs.View.{sectionFrom, symbolFrom, sectionIn, symbolIn}
-use Rattle.owner.specs.Owner.{homeOf}
+use Rattle.records.specs.View.{gapOf, symbolAt}
+use Rattle.view.specs.View.{sectionFrom, symbolFrom}
+use Rattle.catalogue.specs.Function.{sectionOf, startOf, function-is}
 use Rattle.catalogue.specs.Numbers.{functionAt as functionBy}
 use Rattle.function_table.specs.declared.Rows.{Rows}
-use Rattle.function_table.specs.Rows.{offsetOf, codeLength, rowMade, madeOf, rowsMade, made-row}
+use Rattle.function_table.specs.Rows.{codeLength, rowMade, madeOf, rowsMade, made-row}
 use Rattle.function_table.specs.Stored.{rows-past}
 
 length-instructions : (n : ℕ) (d : List ℕ) → length (instructions n d) ≡ n
@@ -62,20 +57,10 @@ module _ (d t : List ℕ) (v : View) where
     y = symbolAt d t v j
 
     abbrev s : SectionRecord
-    s = sectionAt d t v (homeOf d t v y)
+    s = sectionOf d t v j
 
     abbrev plain : Function
-    plain = functionAt (sectionFrom d t v s) (y .address) (offsetOf d t v s y) (symbolFrom d t v y)
-
-    function-is : functionOf j ≡ plain
-    unfolding programFunction textFunctionOf offsetOf sectionFrom symbolFrom
-    function-is = go (isKind Kind.Program (kindOf (sectionFrom d t v s)))
-      where
-        go : (b : Bool)
-            → cond b (programFunction (sectionFrom d t v s) (symbolFrom d t v y)) (textFunctionOf (v .order) (tab (sectionIn d t v) (v .sections)) (symbolIn d t v) (v .symbols) (sectionFrom d t v s) j)
-            ≡ functionAt (sectionFrom d t v s) (y .address) (cond b (y .address) (y .address - s .address)) (symbolFrom d t v y)
-        go true = refl
-        go false = refl
+    plain = functionAt (sectionFrom d t v s) (y .address) (startOf d t v j) (symbolFrom d t v y)
 
     plain-name : length (functionName plain) ≡ y .name .length
     unfolding functionAt symbolFrom
@@ -86,18 +71,18 @@ module _ (d t : List ℕ) (v : View) where
     plain-code = length-each-eight _ ∙ ap (λ (n : ℕ). n * 8) (length-instructions (y .size / 8) _)
 
     name-length : length (functionName (functionOf j)) ≡ y .name .length
-    name-length = ap (λ (f : Function). length (functionName f)) function-is ∙ plain-name
+    name-length = ap (λ (f : Function). length (functionName f)) (function-is d t v j) ∙ plain-name
 
     code-length : length (functionCode (functionOf j)) ≡ codeLength y
-    code-length = ap (λ (f : Function). length (functionCode f)) function-is ∙ plain-code
+    code-length = ap (λ (f : Function). length (functionCode f)) (function-is d t v j) ∙ plain-code
 
     module _ (n a c : ℕ) where
       plain-row : functionRow a c plain ≡ rowMade d t j (rowsFrom n a c) .row
       unfolding functionRow rowMade functionAt sectionFrom symbolFrom
-      plain-row = λ k. record { section = s .index; address = y .address; offset = offsetOf d t v s y; name = range a (plain-name k); code = range c (plain-code k) }
+      plain-row = λ k. record { section = s .index; address = y .address; offset = startOf d t v j; name = range a (plain-name k); code = range c (plain-code k) }
 
       row-is : rowMade d t j (rowsFrom n a c) .row ≡ functionRow a c (functionOf j)
-      row-is = sym (ap (functionRow a c) function-is ∙ plain-row)
+      row-is = sym (ap (functionRow a c) (function-is d t v j) ∙ plain-row)
 
       rest-is : a + length (functionName (functionOf j)) ≤ top → c + length (functionCode (functionOf j)) ≤ top
           → rowMade d t j (rowsFrom n a c) .rest ≡ rowsFrom n (a + length (functionName (functionOf j))) (c + length (functionCode (functionOf j)))

@@ -1,38 +1,25 @@
 -- The rows of the function table, by the record numbers of its symbols.
 use mathlib.Core.Path.{_≡_}
-use mathlib.Core.Bool.{Bool, true, false, cond, _&&_}
+use mathlib.Core.Bool.{true, false, cond, _&&_}
 use mathlib.Core.List.{List, [], _∷_}
-use Prim.Native.Nat.{ℕ, zero, suc, _+_, _-_, _*_, _/_, _<_, min}
+use Prim.Native.Nat.{ℕ, zero, suc, _+_, _*_, _/_, _<_, min}
 use lib.Dec.{ltb}
 use lib.ListN.{length, getD}
-use Rattle.model.specs.declared.EbpfSectionKind.{EbpfSectionKind as Kind}
 use Rattle.model.specs.declared.Function.{Function}
 use Rattle.model.specs.declared.SectionRecord.{SectionRecord}
 use Rattle.model.specs.declared.SymbolRecord.{SymbolRecord}
 use Rattle.model.specs.Lent.{range, zeroRow}
-use Rattle.model.specs.SectionKind.{isKind, kindOf}
 use Rattle.model.specs.Symbols.{top}
-use Rattle.object_view.specs.declared.View.{View}
-use Rattle.records.specs.View.{sectionAt, symbolAt}
+use Rattle.records.specs.View.{symbolAt}
 use Rattle.records.specs.Readable.{Readable}
-use Rattle.owner.specs.Owner.{homeOf}
-use Rattle.view.specs.View.{sectionFrom}
+use Rattle.view.specs.Offset.{codeOffset}
+use Rattle.catalogue.specs.Function.{sectionOf, startOf}
 use Rattle.function_table.specs.declared.Made.{Made}
 use Rattle.function_table.specs.declared.Rows.{Rows}
 
 -- if any row is left to store, the view is readable
 abbrev pub ReadableRows : List ℕ → List ℕ → Rows → Type 0
 ReadableRows d t rows = 0 < rows .count → Readable d t (rows .view)
-
--- where a function begins in the data of its section: a program's at the symbol's address, another's at that less the section's
-unfoldable pub offsetOf : List ℕ → List ℕ → View → SectionRecord → SymbolRecord → ℕ
-offsetOf d t v s y = cond (isKind Kind.Program (kindOf (sectionFrom d t v s))) (y .address) (y .address - s .address)
-
--- by the section's kind
-pub offset-is : (d t : List ℕ) (v : View) (s : SectionRecord) (y : SymbolRecord) (k : Kind) (b : Bool)
-    → k ≡ kindOf (sectionFrom d t v s) → b ≡ isKind Kind.Program k → cond b (y .address) (y .address - s .address) ≡ offsetOf d t v s y
-unfolding offsetOf
-offset-is d t v s y k b e f = rw (f, e)
 
 -- a function's code is whole instructions
 abbrev pub codeLength : SymbolRecord → ℕ
@@ -42,13 +29,13 @@ codeLength y = y .size / 8 * 8
 unfoldable pub rowMade : List ℕ → List ℕ → ℕ → Rows → Made
 rowMade d t j rows =
     let y : SymbolRecord = symbolAt d t (rows .view) j in
-    let s : SectionRecord = sectionAt d t (rows .view) (homeOf d t (rows .view) y) in
+    let s : SectionRecord = sectionOf d t (rows .view) j in
     record {
       row =
           record {
             section = s .index;
             address = y .address;
-            offset = offsetOf d t (rows .view) s y;
+            offset = startOf d t (rows .view) j;
             name = range (rows .name) (y .name .length);
             code = range (rows .code) (codeLength y);
           };
@@ -62,15 +49,15 @@ rowMade d t j rows =
     }
 
 -- by what was read: the symbol, its section and the lengths
-pub row-made : (d t : List ℕ) (j : ℕ) (rows : Rows) (y : SymbolRecord) (i : ℕ) (s : SectionRecord) (o l n c : ℕ)
-    → y ≡ symbolAt d t (rows .view) j → i ≡ homeOf d t (rows .view) y → s ≡ sectionAt d t (rows .view) i → o ≡ offsetOf d t (rows .view) s y
+pub row-made : (d t : List ℕ) (j : ℕ) (rows : Rows) (y : SymbolRecord) (s : SectionRecord) (o l n c : ℕ)
+    → y ≡ symbolAt d t (rows .view) j → s ≡ sectionOf d t (rows .view) j → o ≡ codeOffset d t (rows .view) s y
     → l ≡ y .name .length → n ≡ min (rows .name + l) top → c ≡ min (rows .code + codeLength y) top
     → record {
       row = record { section = s .index; address = y .address; offset = o; name = range (rows .name) l; code = range (rows .code) (codeLength y) };
       rest = record { view = rows .view; count = rows .count; name = n; code = c };
     } ≡ rowMade d t j rows
 unfolding rowMade
-row-made d t j rows y i s o l n c e f g p q u w = rw (w, u, q, p, g, f, e)
+row-made d t j rows y s o l n c e f p q u w = rw (w, u, q, p, f, e)
 
 -- row i of the numbers, and what is left; past the last number a row of zeros
 unfoldable pub madeOf : List ℕ → List ℕ → List ℕ → ℕ → Rows → Made

@@ -1,29 +1,22 @@
 // The function table in a lent slice of structs: its rows stored in the order of a table of record numbers, and the look-up of a row by section and address.
 ghost use mathlib.Core.Path.{_≡_};
 ghost use mathlib.Core.List.{[], _∷_};
-ghost use Prim.Native.Nat.{_+_, _-_, _<_, min};
+ghost use Prim.Native.Nat.{_+_, _<_, min};
 ghost use lib.ListN.{length};
-ghost use Rattle.model.specs.declared.EbpfSectionKind.{EbpfSectionKind as Kind};
 ghost use Rattle.model.specs.Lent.{zeroRow};
-ghost use Rattle.model.specs.SectionKind.{isKind};
 ghost use Rattle.model.specs.Symbols.{top};
 ghost use Rattle.records.specs.Readable.{Readable};
-ghost use Rattle.function_table.specs.Rows.{ReadableRows, offsetOf, rowMade, madeOf, rowsMade};
+ghost use Rattle.function_table.specs.Rows.{ReadableRows, rowMade, madeOf, rowsMade};
 ghost use Rattle.orders.specs.Compare.{ordering};
 ghost use Rattle.function_table.specs.Search.{rowKey, middleOf, begun, narrowed, foundIn};
-use model::EbpfSectionKind;
 use model::Function;
 use model::Range;
 use model::SectionIndex;
-use model::SectionRecord;
-use model::SymbolRecord;
 use object_view::View;
 use orders::Ordering;
-use owner::home;
-use records::section;
-use records::symbol;
+use owner::member_at;
 use stream::wide64;
-use view::kind_of;
+use view::code_offset;
 
 // Which rows are left to store: those of the first `count` numbers, and where the next name and the next code lie.
 pub struct Rows {
@@ -49,40 +42,15 @@ fn capped_sum(x: u64, y: u64) -> u64
     }
 }
 
-fn difference(x: u64, y: u64) -> u64
-    ensures { λ r. ⌜ r ≡ x - y ⌝ }
-{
-    if y < x { x - y } else { 0 }
-}
-
-fn is_program(kind: EbpfSectionKind) -> bool
-    ensures { λ r. ⌜ r ≡ isKind Kind.Program kind ⌝ }
-{
-    match kind {
-        EbpfSectionKind::Program => true,
-        _ => false,
-    }
-}
-
-// Where a function begins in the data of its section.
-fn offset(d: &[u8], t: &[u32], v: View, s: SectionRecord, y: SymbolRecord) -> u64
-    ensures { λ r. ⌜ r ≡ offsetOf (now (d .entry)) (now (t .entry)) v s y ⌝ }
-{
-    if is_program(kind_of(d, t, v, s)) {
-        y.address
-    } else {
-        difference(y.address, s.address)
-    }
-}
-
 // The row of symbol record j.
 fn row(d: &[u8], t: &[u32], j: u32, rows: Rows) -> Made
     requires { ⌜ Readable (now d) (now t) (rows .view) ⌝ }
     ensures { λ r. ⌜ r ≡ rowMade (now (d .entry)) (now (t .entry)) j rows ⌝ }
 {
     let v = rows.view;
-    let y = symbol(d, t, v, j);
-    let s = section(d, t, v, home(d, t, v, y));
+    let m = member_at(d, t, v, j);
+    let y = m.symbol;
+    let s = m.section;
     let index = s.index;
     let name = wide64(y.name.length);
     let code = y.size / 8 * 8;
@@ -90,7 +58,7 @@ fn row(d: &[u8], t: &[u32], j: u32, rows: Rows) -> Made
         row: Function {
             section: index,
             address: y.address,
-            offset: offset(d, t, v, s, y),
+            offset: code_offset(d, t, v, s, y),
             name: Range {
                 at: rows.name,
                 length: name,

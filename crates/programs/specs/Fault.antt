@@ -17,19 +17,20 @@ use Rattle.model.specs.Refusals.{refuse, programSymbolRefusal}
 use Rattle.model.specs.Symbols.{top, isProgram}
 use Rattle.records.specs.View.{symbolAt}
 use Rattle.view.specs.Group.{pastData, past-by-record, faultOf, fault-some}
+use Rattle.view.specs.Offset.{recordOffset, offset-by-record}
 use Rattle.view.specs.View.{sectionFrom, symbolFrom, namedText, program-by-record}
 
 unfoldable pub programFault : SectionRecord → SymbolRecord → ℕ
 programFault s y =
-    cond (pastData (s .bytes .length) (y .address) (y .size) || ltb (y .address) (s .address)) 10
+    cond (pastData (s .bytes .length) (recordOffset s y) (y .size) || ltb (y .address) (s .address)) 10
     (cond (invalidProgramCode (y .size)) 15 0)
 
 pub program-by-fault : (d t : List ℕ) (v : View) (s : SectionRecord) (y : SymbolRecord)
     → programSymbolRefusal (sectionFrom d t v s) (symbolFrom d t v y) ≡ faultOf (programFault s y) (s .index) (y .index)
 unfolding programSymbolRefusal sectionFrom symbolFrom programFault
 program-by-fault d t v s y =
-    rw (past-by-record d t v s (y .address) (y .size))
-    (go (pastData (s .bytes .length) (y .address) (y .size) || ltb (y .address) (s .address)) (invalidProgramCode (y .size)))
+    rw (offset-by-record d t v s y, past-by-record d t v s (recordOffset s y) (y .size))
+    (go (pastData (s .bytes .length) (recordOffset s y) (y .size) || ltb (y .address) (s .address)) (invalidProgramCode (y .size)))
   where
     go : (a b : Bool) → orElse (refuse a 10 (s .index) (y .index) 0) (refuse b 15 (s .index) (y .index) 0) ≡ faultOf (cond a 10 (cond b 15 0)) (s .index) (y .index)
     go true b = refl
@@ -41,23 +42,23 @@ program-by-fault d t v s y =
 module _ (s : SectionRecord) (y : SymbolRecord) where
   pub fault-below : y .address < s .address → programFault s y ≡ 10
   unfolding programFault
-  fault-below l = go (pastData (s .bytes .length) (y .address) (y .size))
+  fault-below l = go (pastData (s .bytes .length) (recordOffset s y) (y .size))
     where
       go : (b : Bool) → _≡_ {A = ℕ} (cond (b || ltb (y .address) (s .address)) 10 (cond (invalidProgramCode (y .size)) 15 0)) 10
       go true = refl
       go false = rw (lt-ltb (y .address) (s .address) l)
 
-  pub fault-past : s .bytes .length < y .address + y .size → programFault s y ≡ 10
+  pub fault-past : s .bytes .length < recordOffset s y + y .size → programFault s y ≡ 10
   unfolding programFault
-  fault-past l = rw (lt-ltb (s .bytes .length) (y .address + y .size) l)
+  fault-past l = rw (lt-ltb (s .bytes .length) (recordOffset s y + y .size) l)
 
-  module _ (from : s .address ≤ y .address) (short : s .bytes .length ≤ top) (fits : y .address + y .size ≤ s .bytes .length) where
+  module _ (from : s .address ≤ y .address) (short : s .bytes .length ≤ top) (fits : recordOffset s y + y .size ≤ s .bytes .length) where
     fault-fits : programFault s y ≡ cond (invalidProgramCode (y .size)) 15 0
     unfolding programFault
     fault-fits =
         rw (
-          le-ltb (s .bytes .length) (y .address + y .size) fits,
-          le-ltb top (y .address + y .size) (omega arith),
+          le-ltb (s .bytes .length) (recordOffset s y + y .size) fits,
+          le-ltb top (recordOffset s y + y .size) (omega arith),
           le-ltb (y .address) (s .address) from,
         )
 

@@ -23,13 +23,14 @@ fn parse_program(s: SectionRecord, y: SymbolRecord) -> u32
     ensures { λ r. ⌜ r ≡ programFault s y ⌝ }
 {
     let length = wide64(s.bytes.length);
+    let start = view::program_offset(s, y);
     if y.address < s.address {
         return 10;
     }
-    if length < y.address {
+    if length < start {
         return 10;
     }
-    if length - y.address < y.size {
+    if length - start < y.size {
         return 10;
     }
     if insn::invalid_program_code(y.size) {

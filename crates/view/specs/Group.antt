@@ -14,7 +14,6 @@ use Rattle.model.specs.declared.Refusal.{Refusal}
 use Rattle.model.specs.declared.SectionIndex.{SectionIndex}
 use Rattle.model.specs.declared.SectionRecord.{SectionRecord}
 use Rattle.model.specs.declared.SymbolIndex.{SymbolIndex}
-use Rattle.model.specs.declared.SymbolRecord.{SymbolRecord}
 use Rattle.model.specs.Bytes.{keep}
 use Rattle.model.specs.Refusals.{isEmpty, passes}
 use Rattle.model.specs.Symbols.{top, liesIn, symbolsOf, programSymbols, isProgram}
@@ -22,7 +21,7 @@ use Rattle.plan.specs.ByNumber.{members, programMembers, symbols-by, programs-b
 use Rattle.plan.specs.Groups.{kept-below}
 use Rattle.records.specs.View.{gapOf}
 use Rattle.stream.specs.Stream.{length-bytes}
-use Rattle.view.specs.View.{sectionFrom, symbolFrom, sectionIn, symbolIn, objectIn}
+use Rattle.view.specs.View.{sectionFrom, sectionIn, symbolIn, objectIn}
 
 -- 'address plus size passes the data or 2^64 - 1': so many bytes from an offset on do
 abbrev pub pastData : ℕ → ℕ → ℕ → Bool

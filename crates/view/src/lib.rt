@@ -1,8 +1,8 @@
-// What an object's records stand for: the kind of a section, and which symbols are programs or defined text.
+// What an object's records stand for: the kind of a section, which symbols are programs or defined text, and where code begins.
 ghost use mathlib.Core.Path.{_≡_};
-ghost use Prim.Native.Nat.{_≤_};
 ghost use Rattle.model.specs.Refusals.{noSymbol};
 ghost use Rattle.model.specs.SectionKind.{kindOf};
+ghost use Rattle.view.specs.Offset.{recordOffset, codeOffset};
 ghost use Rattle.view.specs.View.{sectionFrom, namedText, definedRecord};
 use model::EbpfSectionKind;
 use model::Refusal;
@@ -66,4 +66,25 @@ pub fn is_defined_text(y: SymbolRecord) -> bool
     ensures { λ r. ⌜ r ≡ definedRecord y ⌝ }
 {
     y.kind == 1 && y.definition == 1
+}
+
+// Where a program's bytes begin in the data of its section.
+pub fn program_offset(s: SectionRecord, y: SymbolRecord) -> u64
+    ensures { λ r. ⌜ r ≡ recordOffset s y ⌝ }
+{
+    y.address
+}
+
+// Where a function's code begins in the data of its section: text's at its address past that of the section.
+pub fn code_offset(d: &[u8], t: &[u32], v: View, s: SectionRecord, y: SymbolRecord) -> u64
+    ensures { λ r. ⌜ r ≡ codeOffset (now (d .entry)) (now (t .entry)) v s y ⌝ }
+{
+    let start = s.address;
+    if section_kind::is_program(kind_of(d, t, v, s)) {
+        program_offset(s, y)
+    } else if start < y.address {
+        y.address - start
+    } else {
+        0
+    }
 }

@@ -10,17 +10,11 @@ use borrow.Author.Needs.{needs}
 use Rattle.code.proofs.put_code.Statement.{statement}
 use Rattle.code.proofs.put_code.Tie as tie
 
-symbol-requires : tie.Need-symbol-requires
-symbol-requires c κs = search needs
+member-at-requires : tie.Need-member-at-requires
+member-at-requires c κs = search needs
 
-home-requires : tie.Need-home-requires
-home-requires c κs = search needs
-
-section-requires : tie.Need-section-requires
-section-requires c κs = search needs
-
-offset-requires : tie.Need-offset-requires
-offset-requires c κs = search needs
+code-offset-requires : tie.Need-code-offset-requires
+code-offset-requires c κs = search needs
 
 gap-requires : tie.Need-gap-requires
 gap-requires c κs = search needs
@@ -29,16 +23,18 @@ data-place-requires : tie.Need-data-place-requires
 data-place-requires c κs = search needs
 
 -- the code in hand
-code-of : (c : tie.After-offset) →
+code-of : (c : tie.After-code-offset) →
     let a = c .before .before .before .before .before .before .before .args in
-    Found (now (a .d)) (now (a .t)) (a .v) (a .j) (c .before .section .result) (c .offset .result) (c .before .before .before .symbol .result)
+    let m = c .before .before .before .member-at .result in
+    Found (now (a .d)) (now (a .t)) (a .v) (a .j) (m .section) (c .code-offset .result) (m .symbol)
 unfolding byteAt
 code-of c =
+    let m = c .before .before .before .member-at in
     let g = c .before .before .before .before .before .before in
     let a = g .before .args in
     let small : (k : ℕ) → byteAt (now (a .d)) (gapOf (a .v)) k < 256 = λ k. omega (arith, g .shared-slice-known .given (place (gapOf (a .v)) k)) in
-    found (now (a .d)) (now (a .t)) (a .v) (a .j) (g .before .pre .1) (g .before .pre .0) small (c .before .before .before .symbol .result) (c .before .before .home .result) (c .before .section .result)
-    (c .offset .result) (c .before .before .before .symbol .ensures) (c .before .before .home .ensures) (c .before .section .ensures) (c .offset .ensures)
+    found (now (a .d)) (now (a .t)) (a .v) (a .j) (g .before .pre .1) (g .before .pre .0) small (m .result .symbol) (m .result .section) (c .code-offset .result) (m .ensures .0) (m .ensures .1)
+    (c .code-offset .ensures)
 
 add-copy-stream : tie.Need-add-copy-stream
 add-copy-stream c = omega (arith, code-of (c .before .before))
@@ -71,10 +67,8 @@ pub put-code-spec : {M : Type 1} → statement M
 put-code-spec =
     tie.close
     (tie.spec
-    symbol-requires
-    home-requires
-    section-requires
-    offset-requires
+    member-at-requires
+    code-offset-requires
     gap-requires
     data-place-requires
     add-copy-stream
