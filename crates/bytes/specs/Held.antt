@@ -2,11 +2,10 @@
 use mathlib.Core.Path.{_≡_, refl, sym, ap, _∙_}
 use mathlib.Core.List.{List, _++_, append-assoc}
 use mathlib.Core.Option.{none}
-use Prim.Native.Nat.{ℕ, _+_, _-_, _*_, _^_, _<_, _≤_}
-use native.Mathlib.Nat.{mul-le-mul, zero-add}
+use Prim.Native.Nat.{ℕ, _+_, _-_, _^_, _<_, _≤_}
+use native.Mathlib.Nat.{zero-add}
 use native.Mathlib.Omega.{arith}
 use lib.ListN.{length, getD, take, drop, length-append, length-drop}
-use lib.Seq.{length-take-le}
 use Rattle.object_view.specs.declared.View.{View}
 use Rattle.model.specs.Bytes.{each}
 use Rattle.model.specs.Catalogue.{Catalogue}
@@ -18,7 +17,7 @@ use Rattle.plan.specs.SectionsPrograms.{All}
 use Rattle.view.specs.View.{objectIn}
 use Rattle.catalogue.specs.Numbers.{sectionNumbers, programNumbers, functionNumbers, mapNumbers}
 use Rattle.catalogue.specs.Fits.{FunctionFits, MapFits}
-use Rattle.accepted.specs.Numbers.{sections-below, programs-listed, functions-fit, maps-fit}
+use Rattle.accepted.specs.Numbers.{sections-below, programs-listed as programs-below, functions-fit, maps-fit}
 use Rattle.records.specs.Readable.{Readable}
 use Rattle.pieces.specs.declared.Piece.{Piece}
 use Rattle.pieces.specs.Inside.{Known}
@@ -26,10 +25,11 @@ use Rattle.pieces.specs.Pieces.{pieceOf}
 use Rattle.own.specs.Own.{ownBytes}
 use Rattle.code.specs.Code.{codeAt, AllFit}
 use Rattle.sections.specs.declared.Counts.{Counts}
+use Rattle.bytes.specs.declared.Part.{Part}
 use Rattle.bytes.specs.declared.Places.{Places}
 use Rattle.bytes.specs.Parts.{catalogue, licence-is, section-names, program-names, function-names, function-code, map-names, map-own}
-use Rattle.bytes.specs.Licence.{licence-short}
-use Rattle.bytes.specs.Bounds.{all-front, all-weaken, names-bound, code-bound, own-bound}
+use Rattle.bytes.specs.Bounds.{all-front, all-weaken}
+use Rattle.bytes.specs.Listed.{PartFits, Listed}
 
 -- the four tables, each at the front of its list
 pub record Held (d t : List ℕ) (v : View) (n : Counts) (s p f m : List ℕ) : Type 0 where
@@ -112,17 +112,8 @@ laid-more {t} {a} {l} {out} p x next b e room f =
 module _ (d t : List ℕ) (v : View) (r : Readable d t v) (ok : objectRefusal (objectIn d t v) ≡ none) (n : Counts) (s p f m : List ℕ) (held : Held d t v n s p f m) where
   -- ---- what the numbers stand for is there
 
-  pub sections-known : All (Known Piece.SectionName v) (take (n .sections) s)
-  sections-known = rw (held .sections) (sections-below d t v ok)
-
-  pub programs-known : All (Known Piece.SymbolName v) (take (n .programs) p)
-  programs-known = rw (held .programs) (programs-listed d t v ok)
-
   functions-fitting : All (FunctionFits d t v) (take (n .functions) f)
   functions-fitting = rw (held .functions) (functions-fit d t v ok r)
-
-  pub functions-known : All (Known Piece.SymbolName v) (take (n .functions) f)
-  functions-known = all-weaken (FunctionFits d t v) (Known Piece.SymbolName v) (take (n .functions) f) (λ j e. e .symbol) functions-fitting
 
   pub all-fit : AllFit d t v f (n .functions)
   all-fit = all-front (FunctionFits d t v) (n .functions) f (held .functions-in) functions-fitting
@@ -130,11 +121,35 @@ module _ (d t : List ℕ) (v : View) (r : Readable d t v) (ok : objectRefusal (o
   maps-fitting : All (MapFits d t v) (take (n .maps) m)
   maps-fitting = rw (held .maps) (maps-fit d t v ok r)
 
-  pub maps-known : All (Known Piece.MapName v) (take (n .maps) m)
-  maps-known = all-weaken (MapFits d t v) (Known Piece.MapName v) (take (n .maps) m) (λ j e. e .number) maps-fitting
-
   pub all-maps-fit : (k : ℕ) → k < n .maps → MapFits d t v (getD m k 0)
   all-maps-fit = all-front (MapFits d t v) (n .maps) m (held .maps-in) maps-fitting
+
+  -- ---- the tables
+
+  listed : (part : Part) (k : ℕ) (l : List ℕ) → k ≤ length l → k ≤ 69632 → All (PartFits part d t v) (take k l) → Listed part d t v l k
+  listed part k l e g a = (e, g, r, all-front (PartFits part d t v) k l e a)
+
+  pub sections-listed : Listed (Part.Name Piece.SectionName) d t v s (n .sections)
+  sections-listed = listed (Part.Name Piece.SectionName) (n .sections) s (held .sections-in) (held .few-sections) (rw (held .sections) (sections-below d t v ok))
+
+  pub programs-listed : Listed (Part.Name Piece.SymbolName) d t v p (n .programs)
+  programs-listed = listed (Part.Name Piece.SymbolName) (n .programs) p (held .programs-in) (held .few-programs) (rw (held .programs) (programs-below d t v ok))
+
+  pub functions-listed : Listed (Part.Name Piece.SymbolName) d t v f (n .functions)
+  functions-listed =
+      listed (Part.Name Piece.SymbolName) (n .functions) f (held .functions-in) (omega (arith, held .few-functions))
+      (all-weaken (FunctionFits d t v) (Known Piece.SymbolName v) (take (n .functions) f) (λ j e. e .symbol) functions-fitting)
+
+  pub code-listed : Listed Part.Code d t v f (n .functions)
+  code-listed = listed Part.Code (n .functions) f (held .functions-in) (omega (arith, held .few-functions)) functions-fitting
+
+  pub maps-listed : Listed (Part.Name Piece.MapName) d t v m (n .maps)
+  maps-listed =
+      listed (Part.Name Piece.MapName) (n .maps) m (held .maps-in) (held .few-maps)
+      (all-weaken (MapFits d t v) (Known Piece.MapName v) (take (n .maps) m) (λ j e. e .number) maps-fitting)
+
+  pub own-listed : Listed Part.Own d t v m (n .maps)
+  own-listed = (held .maps-in, held .few-maps, r, λ k l. tt)
 
   -- ---- the parts, by the tables in hand
 
@@ -159,65 +174,55 @@ module _ (d t : List ℕ) (v : View) (r : Readable d t v) (ok : objectRefusal (o
   pub own-of-maps : each (ownBytes d t v) (take (n .maps) m) ≡ each mapOwn (c .maps)
   own-of-maps = rw (held .maps) (sym (map-own d t v r ok))
 
-  -- ---- no sum is large
-
-  bound : (k b : ℕ) (l : List ℕ) (x : ℕ) → k ≤ length l → k ≤ 69632 → b ≤ 16777216 → x ≤ length (take k l) * b → x ≤ 69632 * 16777216
-  bound k b l x e g u z =
-      let q : length (take k l) ≡ k = length-take-le k l e in
-      let w : x ≤ k * b = rw q at z in
-      let y : k * b ≤ 69632 * 16777216 = mul-le-mul g u in
-      omega arith
-
-  pub small-sections : length (each (pieceOf Piece.SectionName d t v) (take (n .sections) s)) ≤ 69632 * 16777216
-  small-sections = bound (n .sections) 65535 s _ (held .sections-in) (held .few-sections) (omega arith) (names-bound d t v r Piece.SectionName (take (n .sections) s) sections-known)
-
-  pub small-programs : length (each (pieceOf Piece.SymbolName d t v) (take (n .programs) p)) ≤ 69632 * 16777216
-  small-programs = bound (n .programs) 65535 p _ (held .programs-in) (held .few-programs) (omega arith) (names-bound d t v r Piece.SymbolName (take (n .programs) p) programs-known)
-
-  pub small-functions : length (each (pieceOf Piece.SymbolName d t v) (take (n .functions) f)) ≤ 69632 * 16777216
-  small-functions = bound (n .functions) 65535 f _ (held .functions-in) (omega (arith, held .few-functions)) (omega arith) (names-bound d t v r Piece.SymbolName (take (n .functions) f) functions-known)
-
-  pub small-code : length (each (codeAt d t v) (take (n .functions) f)) ≤ 69632 * 16777216
-  small-code = bound (n .functions) 16777216 f _ (held .functions-in) (omega (arith, held .few-functions)) (omega arith) (code-bound d t v r (take (n .functions) f) functions-fitting)
-
-  pub small-maps : length (each (pieceOf Piece.MapName d t v) (take (n .maps) m)) ≤ 69632 * 16777216
-  small-maps = bound (n .maps) 65535 m _ (held .maps-in) (held .few-maps) (omega arith) (names-bound d t v r Piece.MapName (take (n .maps) m) maps-known)
-
-  pub small-own : length (each (ownBytes d t v) (take (n .maps) m)) ≤ 69632 * 16777216
-  small-own = bound (n .maps) 16777216 m _ (held .maps-in) (held .few-maps) (omega arith) (own-bound d t v r (take (n .maps) m))
-
   -- ---- the places
 
-  pub places-are : (l a b e g i k : ℕ) → l ≡ length (licenceOf (objectIn d t v))
-      → a ≡ length (each (pieceOf Piece.SectionName d t v) (take (n .sections) s))
-      → b ≡ length (each (pieceOf Piece.SymbolName d t v) (take (n .programs) p))
-      → e ≡ length (each (pieceOf Piece.SymbolName d t v) (take (n .functions) f))
-      → g ≡ length (each (codeAt d t v) (take (n .functions) f))
-      → i ≡ length (each (pieceOf Piece.MapName d t v) (take (n .maps) m))
-      → k ≡ length (each (ownBytes d t v) (take (n .maps) m))
-      → At c (record { sections = l; programs = l + a; functions = l + a + b; code = l + a + b + e; maps = l + a + b + e + g; own = l + a + b + e + g + i; end = l + a + b + e + g + i + k })
-  unfolding sectionsAt programsAt functionsAt codeStart mapsAt ownStart
-  places-are l a b e g i k q₀ q₁ q₂ q₃ q₄ q₅ q₆ =
-      let x₀ : l ≡ length (c .licence) = q₀ ∙ ap length (sym (licence-is d t v r ok)) in
-      let x₁ : a ≡ length (each sectionName (c .sections)) = q₁ ∙ ap length names-of-sections in
-      let x₂ : b ≡ length (each programName (c .programs)) = q₂ ∙ ap length names-of-programs in
-      let x₃ : e ≡ length (each functionName (c .functions)) = q₃ ∙ ap length names-of-functions in
-      let x₄ : g ≡ length (each functionCode (c .functions)) = q₄ ∙ ap length code-of-functions in
-      let x₅ : i ≡ length (each mapName (c .maps)) = q₅ ∙ ap length names-of-maps in
-      let x₆ : k ≡ length (each mapOwn (c .maps)) = q₆ ∙ ap length own-of-maps in
-      let last : l + a + b + e + g + i + k ≡ length (bytesOf c) = rw (x₀, x₁, x₂, x₃, x₄, x₅, x₆) (sym (bytes-end c)) in
-      record {
-        sections = x₀;
-        programs = rw (x₀, x₁);
-        functions = rw (x₀, x₁, x₂);
-        code = rw (x₀, x₁, x₂, x₃);
-        maps = rw (x₀, x₁, x₂, x₃, x₄);
-        own = rw (x₀, x₁, x₂, x₃, x₄, x₅);
-        end = last;
-        small =
-            omega
-            (arith, last, q₀, q₁, q₂, q₃, q₄, q₅, q₆, licence-short d t v r, small-sections, small-programs, small-functions, small-code, small-maps, small-own);
-      }
+  -- lengths that were summed up
+  module _ (l a b e g i k : ℕ) (q₀ : l ≡ length (licenceOf (objectIn d t v)))
+      (q₁ : a ≡ length (each (pieceOf Piece.SectionName d t v) (take (n .sections) s)))
+      (q₂ : b ≡ length (each (pieceOf Piece.SymbolName d t v) (take (n .programs) p)))
+      (q₃ : e ≡ length (each (pieceOf Piece.SymbolName d t v) (take (n .functions) f)))
+      (q₄ : g ≡ length (each (codeAt d t v) (take (n .functions) f)))
+      (q₅ : i ≡ length (each (pieceOf Piece.MapName d t v) (take (n .maps) m)))
+      (q₆ : k ≡ length (each (ownBytes d t v) (take (n .maps) m))) where
+    of-licence : l ≡ length (c .licence)
+    of-licence = q₀ ∙ ap length (sym (licence-is d t v r ok))
+
+    of-sections : a ≡ length (each sectionName (c .sections))
+    of-sections = q₁ ∙ ap length names-of-sections
+
+    of-programs : b ≡ length (each programName (c .programs))
+    of-programs = q₂ ∙ ap length names-of-programs
+
+    of-functions : e ≡ length (each functionName (c .functions))
+    of-functions = q₃ ∙ ap length names-of-functions
+
+    of-code : g ≡ length (each functionCode (c .functions))
+    of-code = q₄ ∙ ap length code-of-functions
+
+    of-maps : i ≡ length (each mapName (c .maps))
+    of-maps = q₅ ∙ ap length names-of-maps
+
+    of-own : k ≡ length (each mapOwn (c .maps))
+    of-own = q₆ ∙ ap length own-of-maps
+
+    sum-is : l + a + b + e + g + i + k ≡ length (bytesOf c)
+    unfolding sectionsAt programsAt functionsAt codeStart mapsAt ownStart
+    sum-is = rw (of-licence, of-sections, of-programs, of-functions, of-code, of-maps, of-own) (sym (bytes-end c))
+
+    pub places-are : l + a + b + e + g + i + k < 2 ^ 44
+        → At c (record { sections = l; programs = l + a; functions = l + a + b; code = l + a + b + e; maps = l + a + b + e + g; own = l + a + b + e + g + i; end = l + a + b + e + g + i + k })
+    unfolding sectionsAt programsAt functionsAt codeStart mapsAt ownStart
+    places-are small =
+        record {
+          sections = of-licence;
+          programs = rw (of-licence, of-sections);
+          functions = rw (of-licence, of-sections, of-programs);
+          code = rw (of-licence, of-sections, of-programs, of-functions);
+          maps = rw (of-licence, of-sections, of-programs, of-functions, of-code);
+          own = rw (of-licence, of-sections, of-programs, of-functions, of-code, of-maps);
+          end = sum-is;
+          small = rw (← sum-is) small;
+        }
 
   -- ---- all of them
 
@@ -226,7 +231,7 @@ module _ (d t : List ℕ) (v : View) (r : Readable d t v) (ok : objectRefusal (o
       + length (each (pieceOf Piece.SymbolName d t v) (take (n .programs) p)) + length (each (pieceOf Piece.SymbolName d t v) (take (n .functions) f))
       + length (each (codeAt d t v) (take (n .functions) f)) + length (each (pieceOf Piece.MapName d t v) (take (n .maps) m))
       + length (each (ownBytes d t v) (take (n .maps) m))
-  bytes-length = sym (places-are _ _ _ _ _ _ _ refl refl refl refl refl refl refl .end)
+  bytes-length = sym (sum-is _ _ _ _ _ _ _ refl refl refl refl refl refl refl)
 
   pub bytes-are : ((((((licenceOf (objectIn d t v) ++ each (pieceOf Piece.SectionName d t v) (take (n .sections) s)) ++ each (pieceOf Piece.SymbolName d t v) (take (n .programs) p))
       ++ each (pieceOf Piece.SymbolName d t v) (take (n .functions) f)) ++ each (codeAt d t v) (take (n .functions) f)) ++ each (pieceOf Piece.MapName d t v) (take (n .maps) m))

@@ -2,8 +2,9 @@
 ghost use mathlib.Core.Path.{_≡_};
 ghost use mathlib.Core.List.{_++_};
 ghost use mathlib.Core.Option.{none};
-ghost use Prim.Native.Nat.{_≤_};
-ghost use lib.ListN.{length, drop};
+ghost use Prim.Native.Nat.{_+_, _*_, _≤_};
+ghost use lib.ListN.{length, take, drop};
+ghost use Rattle.model.specs.Bytes.{each};
 ghost use Rattle.model.specs.Contents.{licenceOf};
 ghost use Rattle.view.specs.View.{objectIn};
 ghost use Rattle.model.specs.Lent.{bytesOf};
@@ -11,6 +12,7 @@ ghost use Rattle.model.specs.Refusals.{objectRefusal};
 ghost use Rattle.records.specs.Readable.{Readable};
 ghost use Rattle.bytes.specs.Parts.{catalogue};
 ghost use Rattle.bytes.specs.Held.{Held, At};
+ghost use Rattle.bytes.specs.Listed.{partOf, PartFits, Listed};
 use first_checks::LicenseAt;
 use first_checks::license_of;
 use lists::copy8;
@@ -28,6 +30,74 @@ pub struct Places {
     pub maps: usize,
     pub own: usize,
     pub end: usize,
+}
+
+// What is laid for each number of a table.
+enum Part {
+    Name(Piece),
+    Code,
+    Own,
+}
+
+// How many bytes number j has of a part.
+fn part_length(d: &[u8], t: &[u32], v: View, part: Part, j: u32) -> usize
+    requires { ⌜ Readable (now d) (now t) v × PartFits part (now d) (now t) v j ⌝ }
+    ensures { λ r. ⌜ (r ≡ length (partOf part (now (d .entry)) (now (t .entry)) v j)) × (r ≤ 16777216) ⌝ }
+{
+    match part {
+        Part::Name(which) => pieces::name_length(d, t, v, which, j),
+        Part::Code => code::code_length(d, t, v, j),
+        Part::Own => own::own_length(d, t, v, j),
+    }
+}
+
+// How many bytes the first n numbers have of a part.
+fn total(d: &[u8], t: &[u32], v: View, part: Part, order: &[u32], n: usize) -> usize
+    requires { ⌜ Listed part (now d) (now t) v (now order) n ⌝ }
+    ensures { λ r. ⌜ (r ≡ length (each (partOf part (now (d .entry)) (now (t .entry)) v) (take n (now (order .entry))))) × (r ≤ 69632 * 16777216) ⌝ }
+{
+    let mut sum: usize = 0;
+    let mut k: usize = 0;
+    while k < n {
+        sum += part_length(d, t, v, part, order[k]);
+        k += 1;
+    }
+    sum
+}
+
+// Those of number j into out, from `at` on; where they end.
+fn put_one(d: &[u8], t: &[u32], v: View, part: Part, j: u32, out: &mut [u8], at: usize) -> usize
+    requires { ⌜ Readable (now d) (now t) v × PartFits part (now d) (now t) v j × (at + length (partOf part (now d) (now t) v j) ≤ length (now out)) ⌝ }
+    ensures { λ r. ⌜ (r ≡ at + length (partOf part (now (d .entry)) (now (t .entry)) v j)) × (now (out .exit) ≡ take at (now (out .entry)) ++ (partOf part (now (d .entry)) (now (t .entry)) v j ++ drop r (now (out .entry)))) ⌝ }
+{
+    match part {
+        Part::Name(which) => pieces::put_name(d, t, v, which, j, out, at),
+        Part::Code => code::put_code(d, t, v, j, out, at),
+        Part::Own => own::put_own(d, t, v, j, out, at),
+    }
+}
+
+// Those of the first n numbers one after the other into out, from `at` on; where they end.
+fn put_part(
+    d: &[u8],
+    t: &[u32],
+    v: View,
+    part: Part,
+    order: &[u32],
+    n: usize,
+    out: &mut [u8],
+    at: usize,
+) -> usize
+    requires { ⌜ Listed part (now d) (now t) v (now order) n × (at + length (each (partOf part (now d) (now t) v) (take n (now order))) ≤ length (now out)) ⌝ }
+    ensures { λ r. ⌜ (r ≡ at + length (each (partOf part (now (d .entry)) (now (t .entry)) v) (take n (now (order .entry))))) × (now (out .exit) ≡ take at (now (out .entry)) ++ (each (partOf part (now (d .entry)) (now (t .entry)) v) (take n (now (order .entry))) ++ drop r (now (out .entry)))) ⌝ }
+{
+    let mut o = at;
+    let mut k: usize = 0;
+    while k < n {
+        o = put_one(d, t, v, part, order[k], out, o);
+        k += 1;
+    }
+    o
 }
 
 fn license_length(d: &[u8], t: &[u32], v: View) -> usize
@@ -70,14 +140,15 @@ pub fn layout(
     ensures { λ r. ⌜ At (catalogue (now (d .entry)) (now (t .entry)) v) r ⌝ }
 {
     let sections_at = license_length(d, t, v);
-    let programs_at = sections_at
-        + pieces::total(d, t, v, Piece::SectionName, sections, n.sections);
-    let functions_at = programs_at
-        + pieces::total(d, t, v, Piece::SymbolName, programs, n.programs);
-    let code = functions_at + pieces::total(d, t, v, Piece::SymbolName, functions, n.functions);
-    let maps_at = code + code::total(d, t, v, functions, n.functions);
-    let own = maps_at + pieces::total(d, t, v, Piece::MapName, maps, n.maps);
-    let end = own + own::total(d, t, v, maps, n.maps);
+    let section_name = Part::Name(Piece::SectionName);
+    let symbol_name = Part::Name(Piece::SymbolName);
+    let map_name = Part::Name(Piece::MapName);
+    let programs_at = sections_at + total(d, t, v, section_name, sections, n.sections);
+    let functions_at = programs_at + total(d, t, v, symbol_name, programs, n.programs);
+    let code = functions_at + total(d, t, v, symbol_name, functions, n.functions);
+    let maps_at = code + total(d, t, v, Part::Code, functions, n.functions);
+    let own = maps_at + total(d, t, v, map_name, maps, n.maps);
+    let end = own + total(d, t, v, Part::Own, maps, n.maps);
     Places {
         sections: sections_at,
         programs: programs_at,
@@ -105,10 +176,13 @@ pub fn put(
     ensures { λ r. ⌜ now (out .exit) ≡ bytesOf (catalogue (now (d .entry)) (now (t .entry)) v) ++ drop (length (bytesOf (catalogue (now (d .entry)) (now (t .entry)) v))) (now (out .entry)) ⌝ }
 {
     let a = put_license(d, t, v, out);
-    let b = pieces::put(d, t, v, Piece::SectionName, sections, n.sections, out, a);
-    let c = pieces::put(d, t, v, Piece::SymbolName, programs, n.programs, out, b);
-    let e = pieces::put(d, t, v, Piece::SymbolName, functions, n.functions, out, c);
-    let f = code::put(d, t, v, functions, n.functions, out, e);
-    let g = pieces::put(d, t, v, Piece::MapName, maps, n.maps, out, f);
-    own::put(d, t, v, maps, n.maps, out, g);
+    let section_name = Part::Name(Piece::SectionName);
+    let symbol_name = Part::Name(Piece::SymbolName);
+    let map_name = Part::Name(Piece::MapName);
+    let b = put_part(d, t, v, section_name, sections, n.sections, out, a);
+    let c = put_part(d, t, v, symbol_name, programs, n.programs, out, b);
+    let e = put_part(d, t, v, symbol_name, functions, n.functions, out, c);
+    let f = put_part(d, t, v, Part::Code, functions, n.functions, out, e);
+    let g = put_part(d, t, v, map_name, maps, n.maps, out, f);
+    put_part(d, t, v, Part::Own, maps, n.maps, out, g);
 }

@@ -6,12 +6,11 @@ use Prim.Native.Nat.{ℕ, _+_, _-_, _<_, _≤_}
 use native.Mathlib.Omega.{arith}
 use borrow.Author.Tests.{ltb-true, ltb-false}
 use lib.Dec.{ltb}
-use lib.ListN.{getD}
 use Rattle.object_view.specs.declared.View.{View}
 use Rattle.records.specs.View.{sectionAt, symbolAt}
 use Rattle.records.specs.Readable.{NameFits, Readable}
 use Rattle.pieces.specs.declared.Piece.{Piece}
-use Rattle.pieces.specs.Pieces.{extentOf, AllPlaced}
+use Rattle.pieces.specs.Pieces.{extentOf}
 
 -- a number that stands for a record
 abbrev pub Known : Piece → View → ℕ → Type 0
@@ -29,6 +28,3 @@ module _ (d t : List ℕ) (v : View) (r : Readable d t v) where
       go : (b : Bool) → ltb j (v .sections) ≡ b → NameFits d v (cond b (sectionAt d t v j .name) (symbolAt d t v (j - v .sections) .name))
       go true e = r .section-name j (ltb-true _ _ e)
       go false e = let g : v .sections ≤ j = ltb-false _ _ e in r .symbol-name (j - v .sections) (omega arith)
-
-  pub all-placed : (which : Piece) (order : List ℕ) (n : ℕ) → ((k : ℕ) → k < n → Known which v (getD order k 0)) → AllPlaced which d t v order n
-  all-placed which order n known k l = name-fits which (getD order k 0) (known k l) .placed

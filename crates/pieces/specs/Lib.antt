@@ -1,5 +1,4 @@
 -- What the contracts of `pieces` cite, and the laws of copying.
 pub mod Copy
-pub mod Laid
 pub mod Pieces
 pub mod Inside

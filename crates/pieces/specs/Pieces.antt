@@ -2,9 +2,9 @@
 use mathlib.Core.Path.{_≡_, refl}
 use mathlib.Core.Bool.{Bool, true, false, cond}
 use mathlib.Core.List.{List}
-use Prim.Native.Nat.{ℕ, _+_, _-_, _<_, _≤_}
+use Prim.Native.Nat.{ℕ, _+_, _-_, _≤_}
 use lib.Dec.{ltb}
-use lib.ListN.{length, getD}
+use lib.ListN.{length}
 use Rattle.model.specs.declared.Extent.{Extent}
 use Rattle.object_view.specs.declared.View.{View}
 use Rattle.stream.specs.Stream.{place, bytesAt, length-bytes}
@@ -42,10 +42,9 @@ module _ (d t : List ℕ) (v : View) (j : ℕ) where
       go true = refl
       go false = refl
 
--- the bytes of the first n numbers lie inside the stream
-abbrev pub AllPlaced : Piece → List ℕ → List ℕ → View → List ℕ → ℕ → Type 0
-AllPlaced which d t v order n =
-    (k : ℕ) → k < n → place (gapOf v) (v .at .names + extentOf which d t v (getD order k 0) .at + extentOf which d t v (getD order k 0) .length) ≤ length d
+-- they lie inside the stream
+abbrev pub Placed : Piece → List ℕ → List ℕ → View → ℕ → Type 0
+Placed which d t v j = place (gapOf v) (v .at .names + extentOf which d t v j .at + extentOf which d t v j .length) ≤ length d
 
 -- ---- a range that was read
 
@@ -57,5 +56,5 @@ module _ (which : Piece) (d t : List ℕ) (v : View) (j : ℕ) (x : Extent) (rea
     pub piece-bytes : bytesAt d gap p n ≡ pieceOf which d t v j
     piece-bytes = rw (same, at, long, read)
 
-    pub piece-placed : place (gapOf v) (v .at .names + extentOf which d t v j .at + extentOf which d t v j .length) ≤ length d → place gap (p + n) ≤ length d
+    pub piece-placed : Placed which d t v j → place gap (p + n) ≤ length d
     piece-placed l = rw (same, at, long, read) l

@@ -1,14 +1,14 @@
-// The bytes of a lent catalogue: names of records, laid one after the other in the order of a table of record numbers.
+// The bytes of a lent catalogue: copies of runs of the stream, and the names of records.
 ghost use mathlib.Core.Path.{_≡_};
 ghost use mathlib.Core.List.{_++_};
 ghost use Prim.Native.Nat.{_+_, _^_, _<_, _≤_, min};
 ghost use lib.ListN.{length, take, drop};
-ghost use Rattle.model.specs.Bytes.{each};
 ghost use Rattle.stream.specs.Stream.{bytesAt, place as placeOf};
-ghost use Rattle.pieces.specs.Pieces.{extentOf, pieceOf, AllPlaced};
+ghost use Rattle.pieces.specs.Pieces.{extentOf, pieceOf, Placed};
 use lists::copy8;
 use model::Extent;
 use object_view::View;
+use records::gap;
 use records::name_at;
 use records::section_name;
 use records::symbol_name;
@@ -66,44 +66,29 @@ pub fn extent(d: &[u8], t: &[u32], v: View, which: Piece, j: u32) -> Extent
     }
 }
 
-// How many bytes the names of the first n numbers have.
-pub fn total(d: &[u8], t: &[u32], v: View, which: Piece, order: &[u32], n: usize) -> usize
-    requires { ⌜ (n < 2 ^ 31) × (n ≤ length (now order)) ⌝ }
-    ensures { λ r. ⌜ r ≡ length (each (pieceOf which (now (d .entry)) (now (t .entry)) v) (take n (now (order .entry)))) ⌝ }
+// How many bytes that name has.
+pub fn name_length(d: &[u8], t: &[u32], v: View, which: Piece, j: u32) -> usize
+    ensures { λ r. ⌜ (r ≡ length (pieceOf which (now (d .entry)) (now (t .entry)) v j)) × (r < 2 ^ 32) ⌝ }
 {
-    let mut sum: usize = 0;
-    let mut k: usize = 0;
-    while k < n {
-        let e = extent(d, t, v, which, order[k]);
-        sum += size(e.length);
-        k += 1;
-    }
-    sum
+    let e = extent(d, t, v, which, j);
+    size(e.length)
 }
 
-// Those names one after the other into out, from `at` on; where they end.
-pub fn put(
+// That name into out, from `at` on; where it ends.
+pub fn put_name(
     d: &[u8],
     t: &[u32],
     v: View,
     which: Piece,
-    order: &[u32],
-    n: usize,
+    j: u32,
     out: &mut [u8],
     at: usize,
 ) -> usize
-    requires { ⌜ (n ≤ length (now order)) × AllPlaced which (now d) (now t) v (now order) n × (at + length (each (pieceOf which (now d) (now t) v) (take n (now order))) ≤ length (now out)) ⌝ }
-    ensures { λ r. ⌜ (r ≡ at + length (each (pieceOf which (now (d .entry)) (now (t .entry)) v) (take n (now (order .entry))))) × (now (out .exit) ≡ take at (now (out .entry)) ++ (each (pieceOf which (now (d .entry)) (now (t .entry)) v) (take n (now (order .entry))) ++ drop r (now (out .entry)))) ⌝ }
+    requires { ⌜ Placed which (now d) (now t) v j × (at + length (pieceOf which (now d) (now t) v j) ≤ length (now out)) ⌝ }
+    ensures { λ r. ⌜ (r ≡ at + length (pieceOf which (now (d .entry)) (now (t .entry)) v j)) × (now (out .exit) ≡ take at (now (out .entry)) ++ (pieceOf which (now (d .entry)) (now (t .entry)) v j ++ drop r (now (out .entry)))) ⌝ }
 {
-    let gap = records::gap(v);
-    let mut o = at;
-    let mut k: usize = 0;
-    while k < n {
-        let e = extent(d, t, v, which, order[k]);
-        let len = size(e.length);
-        copy_stream(d, gap, name_at(v, e), len, out, o);
-        o += len;
-        k += 1;
-    }
-    o
+    let e = extent(d, t, v, which, j);
+    let len = size(e.length);
+    copy_stream(d, gap(v), name_at(v, e), len, out, at);
+    at + len
 }

@@ -12,9 +12,8 @@ use Rattle.pieces.specs.declared.Piece.{Piece}
 use Rattle.pieces.specs.Pieces.{pieceOf}
 use Rattle.code.specs.Code.{codeAt}
 use Rattle.own.specs.Own.{ownBytes}
-use Rattle.bytes.specs.Bounds.{all-placed}
 use Rattle.bytes.specs.Parts.{catalogue}
-use Rattle.bytes.specs.Held.{laid-first, laid-length, laid-more, laid-all, sections-known, programs-known, functions-known, all-fit, maps-known, bytes-length, bytes-are}
+use Rattle.bytes.specs.Held.{laid-first, laid-length, laid-more, laid-all, sections-listed, programs-listed, functions-listed, code-listed, maps-listed, own-listed, bytes-length, bytes-are}
 use Rattle.bytes.proofs.put.Statement.{statement}
 use Rattle.bytes.proofs.put.Tie as tie
 
@@ -24,8 +23,8 @@ put-license-requires c κs =
     let a = z .args in
     (z .pre .0, omega (arith, bytes-length (now (a .d)) (now (a .t)) (a .v) (z .pre .0) (z .pre .1) (a .n) (now (a .sections)) (now (a .programs)) (now (a .functions)) (now (a .maps)) (z .pre .2), z .pre .3))
 
-put-requires : tie.Need-put-requires
-put-requires c κs =
+put-part-requires : tie.Need-put-part-requires
+put-part-requires c κs =
     let z = c .before .before .before .before .before .before .before .before .before .before .before .before in
     let a = z .args in
     let whole = bytes-length (now (a .d)) (now (a .t)) (a .v) (z .pre .0) (z .pre .1) (a .n) (now (a .sections)) (now (a .programs)) (now (a .functions)) (now (a .maps)) (z .pre .2) in
@@ -33,10 +32,10 @@ put-requires c κs =
     let p0 = c .before .before .before .put-license .ensures in
     let l0 = laid-first (licenceOf (objectIn (now (a .d)) (now (a .t)) (a .v))) (now (a .out)) _ _ (p0 .0) (omega (arith, p0 .0, whole, room)) (p0 .1) in
     let len = laid-length l0 in
-    (z .pre .2 .sections-in, all-placed (now (a .d)) (now (a .t)) (a .v) (z .pre .0) Piece.SectionName (a .n .sections) (now (a .sections)) (z .pre .2 .sections-in) (sections-known (now (a .d)) (now (a .t)) (a .v) (z .pre .0) (z .pre .1) (a .n) (now (a .sections)) (now (a .programs)) (now (a .functions)) (now (a .maps)) (z .pre .2)), omega (arith, p0 .0, whole, room, len))
+    (sections-listed (now (a .d)) (now (a .t)) (a .v) (z .pre .0) (z .pre .1) (a .n) (now (a .sections)) (now (a .programs)) (now (a .functions)) (now (a .maps)) (z .pre .2), omega (arith, p0 .0, whole, room, len))
 
-put-requires-2 : tie.Need-put-requires-2
-put-requires-2 c κs =
+put-part-requires-2 : tie.Need-put-part-requires-2
+put-part-requires-2 c κs =
     let z = c .before .before .before .before .before .before .before .before .before .before .before .before .before .before .before .before in
     let a = z .args in
     let whole = bytes-length (now (a .d)) (now (a .t)) (a .v) (z .pre .0) (z .pre .1) (a .n) (now (a .sections)) (now (a .programs)) (now (a .functions)) (now (a .maps)) (z .pre .2) in
@@ -44,13 +43,13 @@ put-requires-2 c κs =
     let p0 = c .before .before .before .before .before .before .before .put-license .ensures in
     let l0 = laid-first (licenceOf (objectIn (now (a .d)) (now (a .t)) (a .v))) (now (a .out)) _ _ (p0 .0) (omega (arith, p0 .0, whole, room)) (p0 .1) in
     let x1 : List ℕ = each (pieceOf Piece.SectionName (now (a .d)) (now (a .t)) (a .v)) (take (a .n .sections) (now (a .sections))) in
-    let p1 = c .before .before .before .put .ensures in
+    let p1 = c .before .before .before .put-part .ensures in
     let l1 = laid-more l0 x1 _ _ (p1 .0) (omega (arith, p0 .0, p1 .0, whole, room)) (p1 .1) in
     let len = laid-length l1 in
-    (z .pre .2 .programs-in, all-placed (now (a .d)) (now (a .t)) (a .v) (z .pre .0) Piece.SymbolName (a .n .programs) (now (a .programs)) (z .pre .2 .programs-in) (programs-known (now (a .d)) (now (a .t)) (a .v) (z .pre .0) (z .pre .1) (a .n) (now (a .sections)) (now (a .programs)) (now (a .functions)) (now (a .maps)) (z .pre .2)), omega (arith, p0 .0, p1 .0, whole, room, len))
+    (programs-listed (now (a .d)) (now (a .t)) (a .v) (z .pre .0) (z .pre .1) (a .n) (now (a .sections)) (now (a .programs)) (now (a .functions)) (now (a .maps)) (z .pre .2), omega (arith, p0 .0, p1 .0, whole, room, len))
 
-put-requires-3 : tie.Need-put-requires-3
-put-requires-3 c κs =
+put-part-requires-3 : tie.Need-put-part-requires-3
+put-part-requires-3 c κs =
     let z = c .before .before .before .before .before .before .before .before .before .before .before .before .before .before .before .before .before .before .before .before in
     let a = z .args in
     let whole = bytes-length (now (a .d)) (now (a .t)) (a .v) (z .pre .0) (z .pre .1) (a .n) (now (a .sections)) (now (a .programs)) (now (a .functions)) (now (a .maps)) (z .pre .2) in
@@ -58,16 +57,16 @@ put-requires-3 c κs =
     let p0 = c .before .before .before .before .before .before .before .before .before .before .before .put-license .ensures in
     let l0 = laid-first (licenceOf (objectIn (now (a .d)) (now (a .t)) (a .v))) (now (a .out)) _ _ (p0 .0) (omega (arith, p0 .0, whole, room)) (p0 .1) in
     let x1 : List ℕ = each (pieceOf Piece.SectionName (now (a .d)) (now (a .t)) (a .v)) (take (a .n .sections) (now (a .sections))) in
-    let p1 = c .before .before .before .before .before .before .before .put .ensures in
+    let p1 = c .before .before .before .before .before .before .before .put-part .ensures in
     let l1 = laid-more l0 x1 _ _ (p1 .0) (omega (arith, p0 .0, p1 .0, whole, room)) (p1 .1) in
     let x2 : List ℕ = each (pieceOf Piece.SymbolName (now (a .d)) (now (a .t)) (a .v)) (take (a .n .programs) (now (a .programs))) in
-    let p2 = c .before .before .before .put2 .ensures in
+    let p2 = c .before .before .before .put-part2 .ensures in
     let l2 = laid-more l1 x2 _ _ (p2 .0) (omega (arith, p0 .0, p1 .0, p2 .0, whole, room)) (p2 .1) in
     let len = laid-length l2 in
-    (z .pre .2 .functions-in, all-placed (now (a .d)) (now (a .t)) (a .v) (z .pre .0) Piece.SymbolName (a .n .functions) (now (a .functions)) (z .pre .2 .functions-in) (functions-known (now (a .d)) (now (a .t)) (a .v) (z .pre .0) (z .pre .1) (a .n) (now (a .sections)) (now (a .programs)) (now (a .functions)) (now (a .maps)) (z .pre .2)), omega (arith, p0 .0, p1 .0, p2 .0, whole, room, len))
+    (functions-listed (now (a .d)) (now (a .t)) (a .v) (z .pre .0) (z .pre .1) (a .n) (now (a .sections)) (now (a .programs)) (now (a .functions)) (now (a .maps)) (z .pre .2), omega (arith, p0 .0, p1 .0, p2 .0, whole, room, len))
 
-put-requires-4 : tie.Need-put-requires-4
-put-requires-4 c κs =
+put-part-requires-4 : tie.Need-put-part-requires-4
+put-part-requires-4 c κs =
     let z = c .before .before .before .before .before .before .before .before .before .before .before .before .before .before .before .before .before .before .before .before .before .before .before .before in
     let a = z .args in
     let whole = bytes-length (now (a .d)) (now (a .t)) (a .v) (z .pre .0) (z .pre .1) (a .n) (now (a .sections)) (now (a .programs)) (now (a .functions)) (now (a .maps)) (z .pre .2) in
@@ -75,19 +74,19 @@ put-requires-4 c κs =
     let p0 = c .before .before .before .before .before .before .before .before .before .before .before .before .before .before .before .put-license .ensures in
     let l0 = laid-first (licenceOf (objectIn (now (a .d)) (now (a .t)) (a .v))) (now (a .out)) _ _ (p0 .0) (omega (arith, p0 .0, whole, room)) (p0 .1) in
     let x1 : List ℕ = each (pieceOf Piece.SectionName (now (a .d)) (now (a .t)) (a .v)) (take (a .n .sections) (now (a .sections))) in
-    let p1 = c .before .before .before .before .before .before .before .before .before .before .before .put .ensures in
+    let p1 = c .before .before .before .before .before .before .before .before .before .before .before .put-part .ensures in
     let l1 = laid-more l0 x1 _ _ (p1 .0) (omega (arith, p0 .0, p1 .0, whole, room)) (p1 .1) in
     let x2 : List ℕ = each (pieceOf Piece.SymbolName (now (a .d)) (now (a .t)) (a .v)) (take (a .n .programs) (now (a .programs))) in
-    let p2 = c .before .before .before .before .before .before .before .put2 .ensures in
+    let p2 = c .before .before .before .before .before .before .before .put-part2 .ensures in
     let l2 = laid-more l1 x2 _ _ (p2 .0) (omega (arith, p0 .0, p1 .0, p2 .0, whole, room)) (p2 .1) in
     let x3 : List ℕ = each (pieceOf Piece.SymbolName (now (a .d)) (now (a .t)) (a .v)) (take (a .n .functions) (now (a .functions))) in
-    let p3 = c .before .before .before .put3 .ensures in
+    let p3 = c .before .before .before .put-part3 .ensures in
     let l3 = laid-more l2 x3 _ _ (p3 .0) (omega (arith, p0 .0, p1 .0, p2 .0, p3 .0, whole, room)) (p3 .1) in
     let len = laid-length l3 in
-    (z .pre .2 .functions-in, z .pre .0, all-fit (now (a .d)) (now (a .t)) (a .v) (z .pre .0) (z .pre .1) (a .n) (now (a .sections)) (now (a .programs)) (now (a .functions)) (now (a .maps)) (z .pre .2), omega (arith, p0 .0, p1 .0, p2 .0, p3 .0, whole, room, len))
+    (code-listed (now (a .d)) (now (a .t)) (a .v) (z .pre .0) (z .pre .1) (a .n) (now (a .sections)) (now (a .programs)) (now (a .functions)) (now (a .maps)) (z .pre .2), omega (arith, p0 .0, p1 .0, p2 .0, p3 .0, whole, room, len))
 
-put-requires-5 : tie.Need-put-requires-5
-put-requires-5 c κs =
+put-part-requires-5 : tie.Need-put-part-requires-5
+put-part-requires-5 c κs =
     let z = c .before .before .before .before .before .before .before .before .before .before .before .before .before .before .before .before .before .before .before .before .before .before .before .before .before .before .before .before in
     let a = z .args in
     let whole = bytes-length (now (a .d)) (now (a .t)) (a .v) (z .pre .0) (z .pre .1) (a .n) (now (a .sections)) (now (a .programs)) (now (a .functions)) (now (a .maps)) (z .pre .2) in
@@ -95,22 +94,22 @@ put-requires-5 c κs =
     let p0 = c .before .before .before .before .before .before .before .before .before .before .before .before .before .before .before .before .before .before .before .put-license .ensures in
     let l0 = laid-first (licenceOf (objectIn (now (a .d)) (now (a .t)) (a .v))) (now (a .out)) _ _ (p0 .0) (omega (arith, p0 .0, whole, room)) (p0 .1) in
     let x1 : List ℕ = each (pieceOf Piece.SectionName (now (a .d)) (now (a .t)) (a .v)) (take (a .n .sections) (now (a .sections))) in
-    let p1 = c .before .before .before .before .before .before .before .before .before .before .before .before .before .before .before .put .ensures in
+    let p1 = c .before .before .before .before .before .before .before .before .before .before .before .before .before .before .before .put-part .ensures in
     let l1 = laid-more l0 x1 _ _ (p1 .0) (omega (arith, p0 .0, p1 .0, whole, room)) (p1 .1) in
     let x2 : List ℕ = each (pieceOf Piece.SymbolName (now (a .d)) (now (a .t)) (a .v)) (take (a .n .programs) (now (a .programs))) in
-    let p2 = c .before .before .before .before .before .before .before .before .before .before .before .put2 .ensures in
+    let p2 = c .before .before .before .before .before .before .before .before .before .before .before .put-part2 .ensures in
     let l2 = laid-more l1 x2 _ _ (p2 .0) (omega (arith, p0 .0, p1 .0, p2 .0, whole, room)) (p2 .1) in
     let x3 : List ℕ = each (pieceOf Piece.SymbolName (now (a .d)) (now (a .t)) (a .v)) (take (a .n .functions) (now (a .functions))) in
-    let p3 = c .before .before .before .before .before .before .before .put3 .ensures in
+    let p3 = c .before .before .before .before .before .before .before .put-part3 .ensures in
     let l3 = laid-more l2 x3 _ _ (p3 .0) (omega (arith, p0 .0, p1 .0, p2 .0, p3 .0, whole, room)) (p3 .1) in
     let x4 : List ℕ = each (codeAt (now (a .d)) (now (a .t)) (a .v)) (take (a .n .functions) (now (a .functions))) in
-    let p4 = c .before .before .before .put4 .ensures in
+    let p4 = c .before .before .before .put-part4 .ensures in
     let l4 = laid-more l3 x4 _ _ (p4 .0) (omega (arith, p0 .0, p1 .0, p2 .0, p3 .0, p4 .0, whole, room)) (p4 .1) in
     let len = laid-length l4 in
-    (z .pre .2 .maps-in, all-placed (now (a .d)) (now (a .t)) (a .v) (z .pre .0) Piece.MapName (a .n .maps) (now (a .maps)) (z .pre .2 .maps-in) (maps-known (now (a .d)) (now (a .t)) (a .v) (z .pre .0) (z .pre .1) (a .n) (now (a .sections)) (now (a .programs)) (now (a .functions)) (now (a .maps)) (z .pre .2)), omega (arith, p0 .0, p1 .0, p2 .0, p3 .0, p4 .0, whole, room, len))
+    (maps-listed (now (a .d)) (now (a .t)) (a .v) (z .pre .0) (z .pre .1) (a .n) (now (a .sections)) (now (a .programs)) (now (a .functions)) (now (a .maps)) (z .pre .2), omega (arith, p0 .0, p1 .0, p2 .0, p3 .0, p4 .0, whole, room, len))
 
-put-requires-6 : tie.Need-put-requires-6
-put-requires-6 c κs =
+put-part-requires-6 : tie.Need-put-part-requires-6
+put-part-requires-6 c κs =
     let z = c .before .before .before .before .before .before .before .before .before .before .before .before .before .before .before .before .before .before .before .before .before .before .before .before .before .before .before .before .before .before .before .before in
     let a = z .args in
     let whole = bytes-length (now (a .d)) (now (a .t)) (a .v) (z .pre .0) (z .pre .1) (a .n) (now (a .sections)) (now (a .programs)) (now (a .functions)) (now (a .maps)) (z .pre .2) in
@@ -118,22 +117,22 @@ put-requires-6 c κs =
     let p0 = c .before .before .before .before .before .before .before .before .before .before .before .before .before .before .before .before .before .before .before .before .before .before .before .put-license .ensures in
     let l0 = laid-first (licenceOf (objectIn (now (a .d)) (now (a .t)) (a .v))) (now (a .out)) _ _ (p0 .0) (omega (arith, p0 .0, whole, room)) (p0 .1) in
     let x1 : List ℕ = each (pieceOf Piece.SectionName (now (a .d)) (now (a .t)) (a .v)) (take (a .n .sections) (now (a .sections))) in
-    let p1 = c .before .before .before .before .before .before .before .before .before .before .before .before .before .before .before .before .before .before .before .put .ensures in
+    let p1 = c .before .before .before .before .before .before .before .before .before .before .before .before .before .before .before .before .before .before .before .put-part .ensures in
     let l1 = laid-more l0 x1 _ _ (p1 .0) (omega (arith, p0 .0, p1 .0, whole, room)) (p1 .1) in
     let x2 : List ℕ = each (pieceOf Piece.SymbolName (now (a .d)) (now (a .t)) (a .v)) (take (a .n .programs) (now (a .programs))) in
-    let p2 = c .before .before .before .before .before .before .before .before .before .before .before .before .before .before .before .put2 .ensures in
+    let p2 = c .before .before .before .before .before .before .before .before .before .before .before .before .before .before .before .put-part2 .ensures in
     let l2 = laid-more l1 x2 _ _ (p2 .0) (omega (arith, p0 .0, p1 .0, p2 .0, whole, room)) (p2 .1) in
     let x3 : List ℕ = each (pieceOf Piece.SymbolName (now (a .d)) (now (a .t)) (a .v)) (take (a .n .functions) (now (a .functions))) in
-    let p3 = c .before .before .before .before .before .before .before .before .before .before .before .put3 .ensures in
+    let p3 = c .before .before .before .before .before .before .before .before .before .before .before .put-part3 .ensures in
     let l3 = laid-more l2 x3 _ _ (p3 .0) (omega (arith, p0 .0, p1 .0, p2 .0, p3 .0, whole, room)) (p3 .1) in
     let x4 : List ℕ = each (codeAt (now (a .d)) (now (a .t)) (a .v)) (take (a .n .functions) (now (a .functions))) in
-    let p4 = c .before .before .before .before .before .before .before .put4 .ensures in
+    let p4 = c .before .before .before .before .before .before .before .put-part4 .ensures in
     let l4 = laid-more l3 x4 _ _ (p4 .0) (omega (arith, p0 .0, p1 .0, p2 .0, p3 .0, p4 .0, whole, room)) (p4 .1) in
     let x5 : List ℕ = each (pieceOf Piece.MapName (now (a .d)) (now (a .t)) (a .v)) (take (a .n .maps) (now (a .maps))) in
-    let p5 = c .before .before .before .put5 .ensures in
+    let p5 = c .before .before .before .put-part5 .ensures in
     let l5 = laid-more l4 x5 _ _ (p5 .0) (omega (arith, p0 .0, p1 .0, p2 .0, p3 .0, p4 .0, p5 .0, whole, room)) (p5 .1) in
     let len = laid-length l5 in
-    (z .pre .2 .maps-in, z .pre .0, omega (arith, p0 .0, p1 .0, p2 .0, p3 .0, p4 .0, p5 .0, whole, room, len))
+    (own-listed (now (a .d)) (now (a .t)) (a .v) (z .pre .0) (z .pre .1) (a .n) (now (a .sections)) (now (a .programs)) (now (a .functions)) (now (a .maps)) (z .pre .2), omega (arith, p0 .0, p1 .0, p2 .0, p3 .0, p4 .0, p5 .0, whole, room, len))
 
 same-length : tie.Need-same-length
 same-length c =
@@ -144,22 +143,22 @@ same-length c =
     let p0 = c .before .before .before .before .before .before .before .before .before .before .before .before .before .before .before .before .before .before .before .before .before .before .before .before .before .before .put-license .ensures in
     let l0 = laid-first (licenceOf (objectIn (now (a .d)) (now (a .t)) (a .v))) (now (a .out)) _ _ (p0 .0) (omega (arith, p0 .0, whole, room)) (p0 .1) in
     let x1 : List ℕ = each (pieceOf Piece.SectionName (now (a .d)) (now (a .t)) (a .v)) (take (a .n .sections) (now (a .sections))) in
-    let p1 = c .before .before .before .before .before .before .before .before .before .before .before .before .before .before .before .before .before .before .before .before .before .before .put .ensures in
+    let p1 = c .before .before .before .before .before .before .before .before .before .before .before .before .before .before .before .before .before .before .before .before .before .before .put-part .ensures in
     let l1 = laid-more l0 x1 _ _ (p1 .0) (omega (arith, p0 .0, p1 .0, whole, room)) (p1 .1) in
     let x2 : List ℕ = each (pieceOf Piece.SymbolName (now (a .d)) (now (a .t)) (a .v)) (take (a .n .programs) (now (a .programs))) in
-    let p2 = c .before .before .before .before .before .before .before .before .before .before .before .before .before .before .before .before .before .before .put2 .ensures in
+    let p2 = c .before .before .before .before .before .before .before .before .before .before .before .before .before .before .before .before .before .before .put-part2 .ensures in
     let l2 = laid-more l1 x2 _ _ (p2 .0) (omega (arith, p0 .0, p1 .0, p2 .0, whole, room)) (p2 .1) in
     let x3 : List ℕ = each (pieceOf Piece.SymbolName (now (a .d)) (now (a .t)) (a .v)) (take (a .n .functions) (now (a .functions))) in
-    let p3 = c .before .before .before .before .before .before .before .before .before .before .before .before .before .before .put3 .ensures in
+    let p3 = c .before .before .before .before .before .before .before .before .before .before .before .before .before .before .put-part3 .ensures in
     let l3 = laid-more l2 x3 _ _ (p3 .0) (omega (arith, p0 .0, p1 .0, p2 .0, p3 .0, whole, room)) (p3 .1) in
     let x4 : List ℕ = each (codeAt (now (a .d)) (now (a .t)) (a .v)) (take (a .n .functions) (now (a .functions))) in
-    let p4 = c .before .before .before .before .before .before .before .before .before .before .put4 .ensures in
+    let p4 = c .before .before .before .before .before .before .before .before .before .before .put-part4 .ensures in
     let l4 = laid-more l3 x4 _ _ (p4 .0) (omega (arith, p0 .0, p1 .0, p2 .0, p3 .0, p4 .0, whole, room)) (p4 .1) in
     let x5 : List ℕ = each (pieceOf Piece.MapName (now (a .d)) (now (a .t)) (a .v)) (take (a .n .maps) (now (a .maps))) in
-    let p5 = c .before .before .before .before .before .before .put5 .ensures in
+    let p5 = c .before .before .before .before .before .before .put-part5 .ensures in
     let l5 = laid-more l4 x5 _ _ (p5 .0) (omega (arith, p0 .0, p1 .0, p2 .0, p3 .0, p4 .0, p5 .0, whole, room)) (p5 .1) in
     let x6 : List ℕ = each (ownBytes (now (a .d)) (now (a .t)) (a .v)) (take (a .n .maps) (now (a .maps))) in
-    let p6 = c .before .before .put6 .ensures in
+    let p6 = c .before .before .put-part6 .ensures in
     let l6 = laid-more l5 x6 _ _ (p6 .0) (omega (arith, p0 .0, p1 .0, p2 .0, p3 .0, p4 .0, p5 .0, p6 .0, whole, room)) (p6 .1) in
     laid-length l6
 
@@ -172,22 +171,22 @@ returns c =
     let p0 = c .before .before .before .before .before .before .before .before .before .before .before .before .before .before .before .before .before .before .before .before .before .before .before .before .before .before .put-license .ensures in
     let l0 = laid-first (licenceOf (objectIn (now (a .d)) (now (a .t)) (a .v))) (now (a .out)) _ _ (p0 .0) (omega (arith, p0 .0, whole, room)) (p0 .1) in
     let x1 : List ℕ = each (pieceOf Piece.SectionName (now (a .d)) (now (a .t)) (a .v)) (take (a .n .sections) (now (a .sections))) in
-    let p1 = c .before .before .before .before .before .before .before .before .before .before .before .before .before .before .before .before .before .before .before .before .before .before .put .ensures in
+    let p1 = c .before .before .before .before .before .before .before .before .before .before .before .before .before .before .before .before .before .before .before .before .before .before .put-part .ensures in
     let l1 = laid-more l0 x1 _ _ (p1 .0) (omega (arith, p0 .0, p1 .0, whole, room)) (p1 .1) in
     let x2 : List ℕ = each (pieceOf Piece.SymbolName (now (a .d)) (now (a .t)) (a .v)) (take (a .n .programs) (now (a .programs))) in
-    let p2 = c .before .before .before .before .before .before .before .before .before .before .before .before .before .before .before .before .before .before .put2 .ensures in
+    let p2 = c .before .before .before .before .before .before .before .before .before .before .before .before .before .before .before .before .before .before .put-part2 .ensures in
     let l2 = laid-more l1 x2 _ _ (p2 .0) (omega (arith, p0 .0, p1 .0, p2 .0, whole, room)) (p2 .1) in
     let x3 : List ℕ = each (pieceOf Piece.SymbolName (now (a .d)) (now (a .t)) (a .v)) (take (a .n .functions) (now (a .functions))) in
-    let p3 = c .before .before .before .before .before .before .before .before .before .before .before .before .before .before .put3 .ensures in
+    let p3 = c .before .before .before .before .before .before .before .before .before .before .before .before .before .before .put-part3 .ensures in
     let l3 = laid-more l2 x3 _ _ (p3 .0) (omega (arith, p0 .0, p1 .0, p2 .0, p3 .0, whole, room)) (p3 .1) in
     let x4 : List ℕ = each (codeAt (now (a .d)) (now (a .t)) (a .v)) (take (a .n .functions) (now (a .functions))) in
-    let p4 = c .before .before .before .before .before .before .before .before .before .before .put4 .ensures in
+    let p4 = c .before .before .before .before .before .before .before .before .before .before .put-part4 .ensures in
     let l4 = laid-more l3 x4 _ _ (p4 .0) (omega (arith, p0 .0, p1 .0, p2 .0, p3 .0, p4 .0, whole, room)) (p4 .1) in
     let x5 : List ℕ = each (pieceOf Piece.MapName (now (a .d)) (now (a .t)) (a .v)) (take (a .n .maps) (now (a .maps))) in
-    let p5 = c .before .before .before .before .before .before .put5 .ensures in
+    let p5 = c .before .before .before .before .before .before .put-part5 .ensures in
     let l5 = laid-more l4 x5 _ _ (p5 .0) (omega (arith, p0 .0, p1 .0, p2 .0, p3 .0, p4 .0, p5 .0, whole, room)) (p5 .1) in
     let x6 : List ℕ = each (ownBytes (now (a .d)) (now (a .t)) (a .v)) (take (a .n .maps) (now (a .maps))) in
-    let p6 = c .before .before .put6 .ensures in
+    let p6 = c .before .before .put-part6 .ensures in
     let l6 = laid-more l5 x6 _ _ (p6 .0) (omega (arith, p0 .0, p1 .0, p2 .0, p3 .0, p4 .0, p5 .0, p6 .0, whole, room)) (p6 .1) in
     let e = bytes-are (now (a .d)) (now (a .t)) (a .v) (z .pre .0) (z .pre .1) (a .n) (now (a .sections)) (now (a .programs)) (now (a .functions)) (now (a .maps)) (z .pre .2) in
     laid-all l6 (bytesOf (catalogue (now (a .d)) (now (a .t)) (a .v))) e
@@ -197,11 +196,11 @@ put-spec =
     tie.close
     (tie.spec
     put-license-requires
-    put-requires
-    put-requires-2
-    put-requires-3
-    put-requires-4
-    put-requires-5
-    put-requires-6
+    put-part-requires
+    put-part-requires-2
+    put-part-requires-3
+    put-part-requires-4
+    put-part-requires-5
+    put-part-requires-6
     same-length
     returns)
