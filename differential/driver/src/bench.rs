@@ -6,42 +6,39 @@ use std::time::{Duration, Instant};
 use aya_obj::Object;
 
 use crate::answer::{Answer, Room};
-use crate::case::{Case, Extent, Judge, Records, SectionRecord, SymbolRecord};
-use crate::parsing::TEXT;
+use crate::case::{Case, Judge, Records};
+use crate::made::{data_section, falling, functions, mixed, program_sections, rising};
 use crate::theirs::aligned;
-use crate::{deposit, elf, objects, ours, room};
+use crate::{deposit, elf, objects, ours, room, worst};
 
 /// Time for each side of a row, at least.
 const SPENT: Duration = Duration::from_millis(300);
 
-/// Prints a row for each object: its deposit's bytes, what each takes, and how many times longer the crate takes.
-pub fn run(folder: &Path) -> bool {
-    println!("object, deposit bytes, load, Object::parse, ratio");
-    for count in [16, 256, 4096, 65536] {
-        let places: Vec<u64> = (0..count).collect();
-        row(&format!("{count} text functions, rising"), text(&places));
-        let falling: Vec<u64> = (0..count).rev().collect();
-        row(&format!("{count} text functions, falling"), text(&falling));
-        let shuffled: Vec<u64> = (0..count).map(|k| k * 40503 % count).collect();
-        row(&format!("{count} text functions, mixed"), text(&shuffled));
-    }
-    for count in [16, 256, 4096] {
-        row(&format!("{count} program sections"), programs(count));
-    }
-    row("4 MB of .data", data(4 << 20));
-    real(folder)
+/// Prints a row for each object: its deposit's bytes, what each takes, how many times longer the crate takes, and growth; then the worst cases,
+/// where so many sections share relocations.
+pub fn run(folder: &Path, sharing: u32) -> bool {
+    println!("object, deposit bytes, load, Object::parse, ratio, growth");
+    let text = |slots: fn(u64) -> Vec<u64>| move |n| functions(".text", &slots(n));
+    series("text functions, rising", 65536, text(rising));
+    series("text functions, falling", 65536, text(falling));
+    series("text functions, mixed", 65536, text(mixed));
+    series("program sections", 4096, program_sections);
+    series("bytes of .data", 4 << 20, data_section);
+    let real = real(folder);
+    worst::run(sharing);
+    real
 }
 
-fn row(name: &str, records: Records) {
-    let object = elf::write(&records);
-    told(
-        name,
-        &[(
-            case(deposit::lay_out(&records)),
-            object,
-            room::enough(&records),
-        )],
-    );
+/// Rows up to a largest count, each of 16 times the one before; a row's growth is how many times longer its load takes than that of the one before.
+fn series(name: &str, most: u64, make: impl Fn(u64) -> Records) {
+    let mut before: Option<Duration> = None;
+    for count in (0..4).rev().map(|k| most >> (4 * k)).filter(|n| *n >= 16) {
+        let records = make(count);
+        let object = elf::write(&records);
+        let case = case(deposit::lay_out(&records));
+        let row = [(case, object, room::enough(&records))];
+        before = Some(told(&format!("{count} {name}"), &row, before));
+    }
 }
 
 /// All real objects that both accept, as one row.
@@ -59,11 +56,11 @@ fn real(folder: &Path) -> bool {
             accepted.push((case, object, Room::of(s.taken())));
         }
     }
-    told(&format!("{} real objects", accepted.len()), &accepted);
+    told(&format!("{} real objects", accepted.len()), &accepted, None);
     true
 }
 
-fn case(deposit: Vec<u8>) -> Case {
+pub fn case(deposit: Vec<u8>) -> Case {
     Case {
         aim: "",
         deposit,
@@ -76,35 +73,52 @@ fn case(deposit: Vec<u8>) -> Case {
     }
 }
 
-fn told(name: &str, cases: &[(Case, Vec<u8>, Room)]) {
-    let mut buffers = vec![Vec::new(); cases.len()];
-    let objects: Vec<&[u8]> = cases
-        .iter()
-        .zip(&mut buffers)
-        .map(|(c, b)| aligned(&c.1, b))
-        .collect();
+/// Prints a row, and answers with what the load takes.
+fn told(name: &str, cases: &[(Case, Vec<u8>, Room)], before: Option<Duration>) -> Duration {
     let mut lent: Vec<_> = cases
         .iter()
         .map(|(_, _, room)| ours::filled(room, 0))
         .collect();
-    let ours = || {
+    let ours = least(|| {
         for ((case, ..), lent) in cases.iter().zip(&mut lent) {
             black_box(ours::load_into(case, lent));
         }
-    };
-    let ours = least(ours);
-    let theirs = least(|| {
+    });
+    let objects: Vec<&[u8]> = cases.iter().map(|(_, object, _)| &object[..]).collect();
+    let theirs = parse(&objects);
+    let bytes: usize = cases.iter().map(|(case, ..)| case.deposit.len()).sum();
+    let (ratio, growth) = (times(theirs, ours), times_or_none(Some(ours), before));
+    println!("{name}, {bytes}, {ours:.1?}, {theirs:.1?}, {ratio}, {growth}");
+    ours
+}
+
+/// What the crate takes for all of these.
+pub fn parse(objects: &[&[u8]]) -> Duration {
+    let mut buffers = vec![Vec::new(); objects.len()];
+    let objects: Vec<&[u8]> = objects
+        .iter()
+        .zip(&mut buffers)
+        .map(|(object, buffer)| aligned(object, buffer))
+        .collect();
+    least(|| {
         for object in &objects {
             drop(black_box(Object::parse(object)));
         }
-    });
-    let bytes: usize = cases.iter().map(|(case, ..)| case.deposit.len()).sum();
-    let ratio = theirs.as_secs_f64() / ours.as_secs_f64();
-    println!("{name}, {bytes}, {ours:.1?}, {theirs:.1?}, {ratio:.2}");
+    })
 }
 
-/// The shortest of many runs.
-fn least(mut run: impl FnMut()) -> Duration {
+pub fn times(longer: Duration, shorter: Duration) -> String {
+    format!("{:.2}", longer.as_secs_f64() / shorter.as_secs_f64())
+}
+
+pub fn times_or_none(longer: Option<Duration>, shorter: Option<Duration>) -> String {
+    longer
+        .zip(shorter)
+        .map_or("-".to_string(), |(a, b)| times(a, b))
+}
+
+/// The shortest of many runs, or the only one if it is long.
+pub fn least(mut run: impl FnMut()) -> Duration {
     let start = Instant::now();
     let mut least = Duration::MAX;
     while start.elapsed() < SPENT {
@@ -113,68 +127,4 @@ fn least(mut run: impl FnMut()) -> Duration {
         least = least.min(from.elapsed());
     }
     least
-}
-
-fn name(records: &mut Records, name: &str) -> Extent {
-    let at = records.names.len() as u32;
-    records.names.extend(name.as_bytes());
-    Extent {
-        at,
-        length: name.len() as u32,
-    }
-}
-
-fn section(records: &mut Records, called: &str, mark: u32, data: &[u8]) {
-    let name = name(records, called);
-    let bytes = Extent {
-        at: records.data.len() as u32,
-        length: data.len() as u32,
-    };
-    records.data.extend(data);
-    records.sections.push(SectionRecord {
-        index: records.sections.len() as u32 + 1,
-        mark,
-        name,
-        size: data.len() as u64,
-        bytes,
-        ..Default::default()
-    });
-}
-
-fn function(records: &mut Records, called: &str, address: u64) {
-    let name = name(records, called);
-    records.symbols.push(SymbolRecord {
-        index: records.symbols.len() as u32 + 1,
-        section: records.sections.len() as u32,
-        name,
-        address,
-        size: 8,
-        kind: TEXT,
-        definition: 1,
-    });
-}
-
-/// One text section of functions of one instruction, at these slots in symbol order.
-fn text(slots: &[u64]) -> Records {
-    let mut records = Records::default();
-    section(&mut records, ".text", 1, &vec![0x95; 8 * slots.len()]);
-    for slot in slots {
-        function(&mut records, &format!("function_{slot}"), 8 * slot);
-    }
-    records
-}
-
-fn programs(count: usize) -> Records {
-    let mut records = Records::default();
-    for k in 0..count {
-        section(&mut records, &format!("kprobe/do_{k}"), 1, &[0x95; 64]);
-        function(&mut records, &format!("program_{k}"), 0);
-    }
-    records
-}
-
-fn data(length: usize) -> Records {
-    let mut records = Records::default();
-    section(&mut records, ".data", 0, &vec![7; length]);
-    records
 }

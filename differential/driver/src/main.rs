@@ -10,6 +10,7 @@ mod generate;
 mod hold;
 mod kinds;
 mod lay;
+mod made;
 mod objects;
 mod ours;
 mod parsing;
@@ -24,6 +25,7 @@ mod sample;
 mod shrink;
 mod tally;
 mod theirs;
+mod worst;
 
 use std::path::Path;
 use std::process::ExitCode;
@@ -39,7 +41,7 @@ const USAGE: &str = "driver random N SEED FOLDER: N cases drawn by SEED, those a
 driver record N SEED FOLDER: N cases with the crate's answers, as the program replay reads them, into FOLDER
 driver outside N SEED FOLDER: N cases that nobody judges with our answers, for tools/model_check.py, into FOLDER
 driver objects FOLDER: each NAME.o in FOLDER beside its NAME.deposit
-driver bench FOLDER: how long both take, on such objects and on made ones; built for release
+driver bench FOLDER N: how long both take, on such objects, on made ones and in worst cases, N sections with the same relocations; built for release
 A difference is shrunk and saved in FOLDER, and the exit status is 1.";
 
 /// A load takes up to 1.5 MB of stack.
@@ -74,7 +76,7 @@ fn main() -> ExitCode {
                 by_nobody,
             ))
         }
-        ["bench", folder] => Some(bench::run(Path::new(folder))),
+        ["bench", folder, n] => Some(bench::run(Path::new(folder), n.parse().ok()?)),
         ["objects", folder] => Some(objects::run(Path::new(folder))),
         _ => None,
     };
