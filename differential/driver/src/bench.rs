@@ -1,18 +1,21 @@
 //! The load call and `Object::parse` side by side, on the same objects, in one run.
 use std::hint::black_box;
 use std::path::Path;
-use std::time::{Duration, Instant};
+use std::time::Duration;
 
 use aya_obj::Object;
 
 use crate::answer::{Answer, Room};
 use crate::case::{Case, Judge, Records};
+use crate::clock::thread_time;
 use crate::made::{data_section, falling, functions, mixed, program_sections, rising};
 use crate::theirs::aligned;
 use crate::{deposit, elf, objects, ours, room, worst};
 
 /// Time for each side of a row, at least.
 const SPENT: Duration = Duration::from_millis(300);
+/// Time between two looks at the clock, at least, where a run is short.
+const BATCH: Duration = Duration::from_micros(200);
 
 /// Prints a row for each object: its deposit's bytes, what each takes, how many times longer the crate takes, and growth; then the worst cases,
 /// where so many sections share relocations.
@@ -117,14 +120,22 @@ pub fn times_or_none(longer: Option<Duration>, shorter: Option<Duration>) -> Str
         .map_or("-".to_string(), |(a, b)| times(a, b))
 }
 
-/// The shortest of many runs, or the only one if it is long.
+/// What a run takes: in the shortest of many batches, or the only time if that is long.
 pub fn least(mut run: impl FnMut()) -> Duration {
-    let start = Instant::now();
-    let mut least = Duration::MAX;
-    while start.elapsed() < SPENT {
-        let from = Instant::now();
-        run();
-        least = least.min(from.elapsed());
+    let mut timed = |runs: u32| {
+        let from = thread_time();
+        for _ in 0..runs {
+            run();
+        }
+        thread_time() - from
+    };
+    let mut least = timed(1);
+    let mut spent = least;
+    let runs = 1 + BATCH.div_duration_f64(least) as u32;
+    while spent < SPENT {
+        let batch = timed(runs);
+        least = least.min(batch / runs);
+        spent += batch;
     }
     least
 }

@@ -2,6 +2,7 @@
 mod answer;
 mod bench;
 mod case;
+mod clock;
 mod compare;
 mod deposit;
 mod domain;

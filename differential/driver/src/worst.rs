@@ -7,6 +7,7 @@ use crate::answer::{Answer, Room};
 use crate::bench::{case, least, parse, times, times_or_none};
 use crate::case::{Case, Extent, Patch, Records, RelocationRecord};
 use crate::made::{data, falling, function, functions, mixed, name, own_section, rising, section};
+use crate::rng::Rng;
 use crate::rules::{MOST_BYTES, MOST_NAME, MOST_RECORDS, MOST_SECTIONS, piece};
 use crate::{deposit, elf, ours, patch_list};
 
@@ -43,23 +44,23 @@ pub fn run(sharing: u32) {
 
 fn long_names() {
     let maps = long_named("maps", 0, 28);
-    let load = ours_alone("65536 maps, long names", &maps, &[]);
+    let load = ours_alone("65536 maps, long names", &maps, NO_LIST);
     let sorted = qsorted(&maps);
     println!(
         "  qsort with memcmp of the same names {sorted:.1?}, the load {} times as long",
         times(load, sorted)
     );
     let programs = long_named(PROGRAM, 1, 8);
-    ours_alone("65536 programs, long names", &programs, &[]);
+    ours_alone("65536 programs, long names", &programs, NO_LIST);
     let other = long_named("other", 0, 0);
-    ours_alone("65536 other symbols, long names", &other, &[]);
+    ours_alone("65536 other symbols, long names", &other, NO_LIST);
     let mut sections = Records::default();
     long_named_sections(&mut sections);
-    ours_alone("4096 .data sections, long names", &sections, &[]);
+    ours_alone("4096 .data sections, long names", &sections, NO_LIST);
     let mut all = maps;
     long_named_sections(&mut all);
-    let unknown = [patch("x", 0)];
-    ours_alone("all of these", &all, &unknown);
+    let title = "65536 maps and 4095 .data sections, long names";
+    ours_alone(title, &all, List(1, "x", 0));
 }
 
 fn shared_relocations(sections: u32) {
@@ -71,8 +72,8 @@ fn shared_relocations(sections: u32) {
         at: k,
         length: (MOST_RECORDS - MOST_SECTIONS) as u32,
     };
-    let mixed = |k| 8 * (k * 40503 % MOST_RECORDS as u64);
-    let few = |k| 8 * (k * 40503 % 16);
+    let mixed = |k| Rng::new(k).next();
+    let few = |k| Rng::new(k).next() % 16;
     for (offsets, records) in [
         ("offsets mixed", relocated(sections, mixed, all)),
         ("one offset", relocated(sections, |_| 0, all)),
@@ -83,7 +84,7 @@ fn shared_relocations(sections: u32) {
         if sections <= CRATES_SHARING {
             both(&title, &records);
         } else {
-            ours_alone(&title, &records, &[]);
+            ours_alone(&title, &records, NO_LIST);
         }
     }
 }
@@ -111,7 +112,7 @@ fn one_section() {
 fn shared_data() {
     for (kind, mark) in [(".data", 0), (PROGRAM, 1), (".text", 1)] {
         let title = format!("4096 sections {kind} over the same 15 MB");
-        ours_alone(&title, &over_one_data(kind, mark), &[]);
+        ours_alone(&title, &over_one_data(kind, mark), NO_LIST);
     }
 }
 
@@ -120,30 +121,31 @@ fn patch_lists() {
     own_section(&mut globals, ".data", 0, &vec![7; MUCH_DATA]);
     let all = name(&mut globals, "all");
     function(&mut globals, all, 0, MUCH_DATA as u64);
-    let list = vec![patch("all", MUCH_DATA); 1_000];
-    ours_alone("patches of 15 MB", &globals, &list);
+    let list = List(10_000, "all", MUCH_DATA);
+    ours_alone("patches of 15 MB", &globals, list);
     let many = functions(".data", &rising(MOST_RECORDS as u64));
-    let list = vec![patch("function_54321", 8); 100_000];
-    ours_alone("patches of one of 65536 symbols", &many, &list);
+    let list = List(100_000, "function_54321", 8);
+    ours_alone("patches of one of 65536 symbols", &many, list);
     let other = long_named("other", 0, 0);
-    let list = vec![patch(&"a".repeat(MOST_NAME as usize), 0); 10_000];
-    ours_alone("patches of a long name among 65536", &other, &list);
+    let name = "a".repeat(MOST_NAME as usize);
+    let list = List(100_000, &name, 0);
+    ours_alone("patches of a long name among 65536", &other, list);
 }
 
 fn both(name: &str, records: &Records) {
     let object = elf::write(records);
     let theirs = parse(&[&object]);
-    row(name, records, &[], Some(theirs));
+    row(name, records, NO_LIST, Some(theirs));
 }
 
 /// For what the crate does not take in reasonable time or memory.
-fn ours_alone(name: &str, records: &Records, list: &[Patch]) -> Duration {
+fn ours_alone(name: &str, records: &Records, list: List) -> Duration {
     row(name, records, list, None)
 }
 
-fn row(name: &str, records: &Records, list: &[Patch], theirs: Option<Duration>) -> Duration {
-    let case = with_list(case(deposit::lay_out(records)), list);
-    assert!(case.deposit.len() <= MOST_BYTES, "{name}: no deposit");
+fn row(name: &str, records: &Records, list: List, theirs: Option<Duration>) -> Duration {
+    let entries = list.0;
+    let case = list.lent_to(case(deposit::lay_out(records)));
     let mut lent = ours::filled(&ROOM, 0);
     let mut number = 0;
     let ours = least(|| {
@@ -152,7 +154,8 @@ fn row(name: &str, records: &Records, list: &[Patch], theirs: Option<Duration>) 
             Answer::Refused(r) => r.number,
         }
     });
-    let (bytes, entries) = (case.deposit.len(), list.len());
+    assert!(number == 0 || number > 3, "{name}: not opened, {number}");
+    let bytes = case.deposit.len();
     let parse = theirs.map_or("-".to_string(), |t| format!("{t:.1?}"));
     let ratio = times_or_none(theirs, Some(ours));
     let over = if ours > LIMIT { ", OVER 5 s" } else { "" };
@@ -160,21 +163,24 @@ fn row(name: &str, records: &Records, list: &[Patch], theirs: Option<Duration>) 
     ours
 }
 
-/// Entries that are the same share their name and data.
-fn with_list(case: Case, list: &[Patch]) -> Case {
-    let (entries, patches) = patch_list::lend(&list[..list.len().min(1)]);
-    Case {
-        entries: entries.repeat(list.len()),
-        patches,
-        ..case
-    }
-}
+/// A list of so many entries, all of one name and so many bytes of data, which they share.
+struct List<'a>(usize, &'a str, usize);
 
-fn patch(name: &str, length: usize) -> Patch {
-    Patch {
-        name: name.into(),
-        data: vec![1; length],
-        must_exist: false,
+const NO_LIST: List = List(0, "", 0);
+
+impl List<'_> {
+    fn lent_to(self, case: Case) -> Case {
+        let List(count, name, length) = self;
+        let (entries, patches) = patch_list::lend(&[Patch {
+            name: name.into(),
+            data: vec![1; length],
+            must_exist: false,
+        }]);
+        Case {
+            entries: entries.repeat(count),
+            patches,
+            ..case
+        }
     }
 }
 
