@@ -1,0 +1,173 @@
+-- What the numbers of a name's two pieces tell: computed for each word of the table, and carried to every name.
+use mathlib.Core.Path.{_≡_, refl, sym, ap, subst, _∙_}
+use mathlib.Core.Bool.{Bool, true, false, cond, _&&_, false≢true}
+use mathlib.Core.List.{List, [], _∷_, _++_, map}
+use mathlib.Core.Option.{Option, none, some}
+use Prim.Native.Nat.{ℕ, _+_, _/_, _%_}
+use lib.Dec.{eqb, ltb}
+use Rattle.model.specs.declared.ProgramSection.{ProgramSection}
+use Rattle.model.specs.Bytes.{same, firstIn}
+use Rattle.model.specs.ProgramName.{Second, Reading, fits, readings}
+use Rattle.model.specs.ProgramNumbers.{variantOf}
+use Rattle.model.specs.ReadBack.{programFrom}
+use Rattle.program_section.specs.declared.Found.{Found}
+use Rattle.program_section.specs.Same.{same-is, and-left, and-right}
+use Rattle.program_section.specs.Short.{rowGives, parsed, allRows, rows-alike, none-gives}
+use Rattle.program_section.specs.Found.{rowVariant, shownIn, parsedIn, Tells}
+use Rattle.program_section.specs.Words.{Entry, answering, reading, second, words, nothing, number}
+
+-- a first piece that reads a second: without one, and by both numbers
+abbrev pub alone : ℕ → Found
+alone n = cond (ltb n 0x30000) (Found.Program (rowVariant n)) Found.Nothing
+
+abbrev pub followed : ℕ → ℕ → Found
+followed n k = cond (eqb (k / 0x10000) (n / 0x10000 + 16)) (Found.Program (rowVariant (n + k % 0x10000))) Found.Nothing
+
+abbrev readAs : ℕ → Option (List ℕ) → Found
+readAs n none = alone n
+readAs n (some q) = followed n (number words q)
+
+abbrev pub answer : ℕ → Option (List ℕ) → Found
+answer n q = cond (ltb n 0x10000) (Found.Program (rowVariant n)) (cond (ltb n 0x60000) (readAs n q) Found.Nothing)
+
+-- ---- words of the table, and words that it lacks
+
+abbrev Each : (Entry → Type 0) → List Entry → Type 0
+Each M [] = Unit {0}
+Each M (e ∷ es) = M e × Each M es
+
+each-append : (M : Entry → Type 0) (es fs : List Entry) → Each M es → Each M fs → Each M (es ++ fs)
+each-append M [] fs a b = b
+each-append M (e ∷ es) fs a b = (a .0, each-append M es fs (a .1) b)
+
+each-map : (M N : Entry → Type 0) → ((e : Entry) → M e → N e) → (es : List Entry) → Each M es → Each N es
+each-map M N f [] a = tt
+each-map M N f (e ∷ es) a = (f e (a .0), each-map M N f es (a .1))
+
+abbrev isIn : List ℕ → List Entry → Bool
+isIn w [] = false
+isIn w (e ∷ es) = cond (same (e .word) w) true (isIn w es)
+
+module _ (p : List ℕ) where
+  abbrev Missing : List Entry → Type 0
+  Missing [] = Unit {0}
+  Missing (e ∷ es) = (same (e .word) p ≡ false) × Missing es
+
+  by-words : (M : List ℕ → ℕ → Type 0) (es : List Entry) → Each (λ e. M (e .word) (e .number)) es → (Missing es → M p nothing) → M p (number es p)
+  unfolding number
+  by-words M [] a lack = lack tt
+  by-words M (e ∷ es) a lack = go (same (e .word) p) refl (λ h. by-words M es (a .1) (λ m. lack (h, m)))
+    where
+      go : (b : Bool) → same (e .word) p ≡ b → (same (e .word) p ≡ false → M p (number es p)) → M p (cond b (e .number) (number es p))
+      go true h r = subst (λ (x : List ℕ). M x (e .number)) (same-is (e .word) p h) (a .0)
+      go false h r = r h
+
+  missing-word : (w : List ℕ) (es : List Entry) → Missing es → isIn w es ≡ true → same w p ≡ false
+  missing-word w [] m t = absurd (false≢true t)
+  missing-word w (e ∷ es) m t = go (same (e .word) w) refl t (missing-word w es (m .1))
+    where
+      go : (b : Bool) → same (e .word) w ≡ b → cond b true (isIn w es) ≡ true → (isIn w es ≡ true → same w p ≡ false) → same w p ≡ false
+      go true h t r = subst (λ (x : List ℕ). same x p ≡ false) (same-is (e .word) w h) (m .0)
+      go false h t r = r t
+
+missing-empty : (es : List Entry) → isIn [] es ≡ false → Missing [] es
+missing-empty [] t = tt
+missing-empty (e ∷ es) t = go (same (e .word) []) refl t (missing-empty es)
+  where
+    go : (b : Bool) → same (e .word) [] ≡ b → cond b true (isIn [] es) ≡ false → (isIn [] es ≡ false → Missing [] es) → (same (e .word) [] ≡ false) × Missing [] es
+    go true h t r = absurd (false≢true (sym t))
+    go false h t r = (h, r t)
+
+-- ---- rows of document 01, whose words are all in the table
+
+abbrev knownSecond : Second → Bool
+knownSecond Second.unread = true
+knownSecond Second.absent = true
+knownSecond (Second.is w) = isIn w words
+
+abbrev knownRow : Reading → Bool
+knownRow r = isIn (r .first) words && knownSecond (r .second)
+
+readings-known : allRows knownRow readings ≡ true
+unfolding allRows readings words answering reading second same
+readings-known = refl
+
+-- a first piece that the table lacks
+lacked : (p : List ℕ) (q : Option (List ℕ)) → Missing p words → firstIn (rowGives p q) readings ≡ none
+lacked p q m =
+    rows-alike knownRow (rowGives p q) (λ r. none)
+    (λ r t. rw (missing-word p (r .first) words m (and-left (isIn (r .first) words) (knownSecond (r .second)) t))) readings readings-known
+    ∙ none-gives readings
+
+-- an empty piece is none of its words
+empty-lacked : Missing [] words
+unfolding words answering reading second same
+empty-lacked = missing-empty words refl
+
+-- a second piece that it lacks fits where an empty one does
+fits-lacked : (s : List ℕ) → Missing s words → (k : Second) → knownSecond k ≡ true → fits k (some s) ≡ fits k (some [])
+unfolding fits
+fits-lacked s m Second.unread t = refl
+fits-lacked s m Second.absent t = refl
+fits-lacked s m (Second.is w) t = missing-word s w words m t ∙ sym (missing-word [] w words empty-lacked t)
+
+second-lacked : (w s : List ℕ) → Missing s words → firstIn (rowGives w (some s)) readings ≡ firstIn (rowGives w (some [])) readings
+second-lacked w s m =
+    rows-alike knownRow (rowGives w (some s)) (rowGives w (some []))
+    (λ r t. rw (fits-lacked s m (r .second) (and-right (isIn (r .first) words) (knownSecond (r .second)) t))) readings readings-known
+
+-- ---- the words one by one
+
+tells-each : (f : Entry → Found) (g : Entry → Option ProgramSection) (es : List Entry) → map f es ≡ map (λ e. shownIn (g e)) es
+    → map (λ e. parsedIn (f e)) es ≡ map (λ e. parsed (g e)) es → Each (λ e. Tells (f e) (g e)) es
+tells-each f g [] a b = tt
+tells-each f g (e ∷ es) a b = (record { shows = cc; gives = cc }, tells-each f g es (cc) (cc))
+
+tells-grid : (f : Entry → Entry → Found) (g : Entry → Entry → Option ProgramSection) (es fs : List Entry)
+    → map (λ x. map (f x) es) fs ≡ map (λ x. map (λ e. shownIn (g x e)) es) fs
+    → map (λ x. map (λ e. parsedIn (f x e)) es) fs ≡ map (λ x. map (λ e. parsed (g x e)) es) fs
+    → Each (λ x. Each (λ e. Tells (f x e) (g x e)) es) fs
+tells-grid f g es [] a b = tt
+tells-grid f g es (x ∷ fs) a b = (tells-each (f x) (g x) es (cc) (cc), tells-grid f g es fs (cc) (cc))
+
+abbrev TellsAt : Option (List ℕ) → Entry → Type 0
+TellsAt q e = Tells (answer (e .number) q) (firstIn (rowGives (e .word) q) readings)
+
+answering-tell : (q : Option (List ℕ)) → Each (TellsAt q) answering
+unfolding answering readings firstIn same fits variantOf programFrom
+answering-tell q = tells-each (λ e. answer (e .number) q) (λ e. firstIn (rowGives (e .word) q) readings) answering refl refl
+
+second-tell : (q : Option (List ℕ)) → Each (TellsAt q) second
+unfolding second readings firstIn same fits variantOf programFrom
+second-tell q = tells-each (λ e. answer (e .number) q) (λ e. firstIn (rowGives (e .word) q) readings) second refl refl
+
+-- first pieces that read a second, by the number of it
+abbrev ReadAt : List ℕ → ℕ → Type 0
+ReadAt s k = Each (λ e. Tells (followed (e .number) k) (firstIn (rowGives (e .word) (some s)) readings)) reading
+
+read-words : Each (λ x. ReadAt (x .word) (x .number)) words
+unfolding words answering reading second readings firstIn same fits variantOf programFrom
+read-words =
+    tells-grid (λ x e. followed (e .number) (x .number)) (λ x e. firstIn (rowGives (e .word) (some (x .word))) readings) reading words refl refl
+
+read-empty : ReadAt [] nothing
+unfolding reading readings firstIn same fits variantOf programFrom
+read-empty = tells-each (λ e. followed (e .number) nothing) (λ e. firstIn (rowGives (e .word) (some [])) readings) reading refl refl
+
+read-lacked : (s : List ℕ) → Missing s words → ReadAt s nothing
+read-lacked s m =
+    each-map (λ e. Tells (followed (e .number) nothing) (firstIn (rowGives (e .word) (some [])) readings)) _
+    (λ e t. subst (Tells (followed (e .number) nothing)) (sym (second-lacked (e .word) s m)) t) reading read-empty
+
+reading-tell : (q : Option (List ℕ)) → Each (TellsAt q) reading
+unfolding reading readings firstIn same fits variantOf programFrom
+reading-tell none = tells-each (λ e. answer (e .number) none) (λ e. firstIn (rowGives (e .word) none) readings) reading refl refl
+reading-tell (some s) = by-words s ReadAt words read-words (read-lacked s)
+
+-- the answer by the numbers of a name's two pieces
+pub tells : (p : List ℕ) (q : Option (List ℕ)) → Tells (answer (number words p) q) (firstIn (rowGives p q) readings)
+unfolding words
+tells p q =
+    by-words p (λ w n. Tells (answer n q) (firstIn (rowGives w q) readings)) words
+    (each-append (TellsAt q) answering (reading ++ second) (answering-tell q) (each-append (TellsAt q) reading second (reading-tell q) (second-tell q)))
+    (λ m. rw (lacked p q m) (record { shows = refl; gives = refl }))
