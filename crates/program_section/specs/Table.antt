@@ -32,7 +32,7 @@ answer n q = cond (ltb n 0x10000) (Found.Program (rowVariant n)) (cond (ltb n 0x
 
 -- ---- words of the table, and words that it lacks
 
-abbrev Each : (Entry → Type 0) → List Entry → Type 0
+abbrev pub Each : (Entry → Type 0) → List Entry → Type 0
 Each M [] = Unit {0}
 Each M (e ∷ es) = M e × Each M es
 
@@ -49,11 +49,11 @@ isIn w [] = false
 isIn w (e ∷ es) = cond (same (e .word) w) true (isIn w es)
 
 module _ (p : List ℕ) where
-  abbrev Missing : List Entry → Type 0
+  abbrev pub Missing : List Entry → Type 0
   Missing [] = Unit {0}
   Missing (e ∷ es) = (same (e .word) p ≡ false) × Missing es
 
-  by-words : (M : List ℕ → ℕ → Type 0) (es : List Entry) → Each (λ e. M (e .word) (e .number)) es → (Missing es → M p nothing) → M p (number es p)
+  pub by-words : (M : List ℕ → ℕ → Type 0) (es : List Entry) → Each (λ e. M (e .word) (e .number)) es → (Missing es → M p nothing) → M p (number es p)
   unfolding number
   by-words M [] a lack = lack tt
   by-words M (e ∷ es) a lack = go (same (e .word) p) refl (λ h. by-words M es (a .1) (λ m. lack (h, m)))

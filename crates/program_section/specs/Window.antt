@@ -1,21 +1,23 @@
 -- A name that is the first m bytes of a longer list: its pieces lie there, and their numbers tell it.
 use mathlib.Core.Path.{_≡_, refl, sym, ap, subst, _∙_}
-use mathlib.Core.Bool.{true, false}
+use mathlib.Core.Bool.{Bool, true, false, _&&_}
 use mathlib.Core.List.{List, [], _∷_}
 use mathlib.Core.Option.{Option, none, some}
 use Prim.Native.Nat.{ℕ, zero, suc, _-_, _<_, _≤_, min}
 use native.Mathlib.Nat.{zero-min, min-zero, suc-min-suc}
 use native.Mathlib.Omega.{arith}
-use borrow.Author.Tests.{lt-ltb, le-ltb}
+use borrow.Author.Tests.{eqb-true, ltb-true, lt-ltb, le-ltb}
+use lib.Dec.{eqb, ltb}
 use lib.ListN.{length, take, drop, length-take, length-drop}
 use lib.Seq.{length-take-le, take-take, take-nil}
 use Rattle.model.specs.ProgramName.{cut, firstPiece, secondPiece, programOf}
 use Rattle.program_section.specs.declared.Found.{Found}
+use Rattle.program_section.specs.Same.{and-left, and-right}
 use Rattle.program_section.specs.Pieces.{until, until-le, behind, piece, first-piece, second-piece}
 use Rattle.program_section.specs.Short.{long-name}
 use Rattle.program_section.specs.Found.{rowVariant, Tells}
-use Rattle.program_section.specs.Words.{words, number, short-word}
-use Rattle.program_section.specs.Table.{alone, followed, answer, tells}
+use Rattle.program_section.specs.Words.{Entry, answering, reading, second, words, nothing, number, short-word}
+use Rattle.program_section.specs.Table.{alone, followed, answer, Each, by-words, tells}
 
 drop-take : (k m : ℕ) (l : List ℕ) → drop k (take m l) ≡ take (m - k) (drop k l)
 drop-take zero m l = let e : m ≡ m - 0 = omega arith in ap (λ (n : ℕ). take n l) e
@@ -35,6 +37,37 @@ take-min (suc u) (suc k) (x ∷ r) = rw suc-min-suc (ap (λ (l : List ℕ). x �
 
 short-piece : (u b : ℕ) (r : List ℕ) → b ≡ min u 18 → take b r ≡ take 18 (take u r)
 short-piece u b r e = rw e (take-min u 18 r)
+
+-- ---- no word of the table has a `/`
+
+abbrev Whole : List ℕ → Type 0
+Whole w = (until w ≡ length w) × (length w < 18)
+
+unfoldable allWhole : List Entry → Bool
+allWhole [] = true
+allWhole (e ∷ es) = (eqb (until (e .word)) (length (e .word)) && ltb (length (e .word)) 18) && allWhole es
+
+each-whole : (es : List Entry) → allWhole es ≡ true → Each (λ e. (e .number ≡ nothing → ⊥) → Whole (e .word)) es
+unfolding allWhole
+each-whole [] t = tt
+each-whole (e ∷ es) t =
+    let a = eqb (until (e .word)) (length (e .word)) in
+    let b = ltb (length (e .word)) 18 in
+    let h = and-left (a && b) (allWhole es) t in
+    (λ n. (eqb-true _ _ (and-left a b h), ltb-true _ _ (and-right a b h)), each-whole es (and-right (a && b) (allWhole es) t))
+
+words-whole : allWhole words ≡ true
+unfolding allWhole words answering reading second until
+words-whole = refl
+
+pub whole-word : (v : List ℕ) (m : ℕ) → m ≤ length v → (number words (take (min m 18) v) ≡ nothing → ⊥) → min m 18 ≡ min (until (take m v)) 18
+whole-word v m h n =
+    let p = take (min m 18) v in
+    let w : Whole p = by-words p (λ x k. (k ≡ nothing → ⊥) → Whole x) words (each-whole words words-whole) (λ l z. absurd (z refl)) n in
+    let l : length p ≡ min m 18 = length-take-le (min m 18) v (omega arith) in
+    let e : min m 18 ≡ m = omega (arith, w .1) in
+    let u : until (take m v) ≡ m = rw (e) at (w .0 ∙ l) in
+    rw u
 
 module _ (v : List ℕ) (m : ℕ) (inside : m ≤ length v) where
   abbrev name : List ℕ
