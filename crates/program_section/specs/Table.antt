@@ -3,7 +3,9 @@ use mathlib.Core.Path.{_≡_, refl, sym, ap, subst, _∙_}
 use mathlib.Core.Bool.{Bool, true, false, cond, _&&_, false≢true}
 use mathlib.Core.List.{List, [], _∷_, _++_, map}
 use mathlib.Core.Option.{Option, none, some}
-use Prim.Native.Nat.{ℕ, _+_, _/_, _%_}
+use Prim.Native.Nat.{ℕ, _+_, _/_, _%_, _<_}
+use native.Mathlib.Omega.{arith}
+use borrow.Author.Tests.{lt-ltb}
 use lib.Dec.{eqb, ltb}
 use Rattle.model.specs.declared.ProgramSection.{ProgramSection}
 use Rattle.model.specs.Bytes.{same, firstIn}
@@ -15,6 +17,18 @@ use Rattle.program_section.specs.Same.{same-is, and-left, and-right}
 use Rattle.program_section.specs.Short.{rowGives, parsed, allRows, rows-alike, none-gives}
 use Rattle.program_section.specs.Found.{rowVariant, shownIn, parsedIn, Tells}
 use Rattle.program_section.specs.Words.{Entry, answering, reading, second, words, nothing, number}
+
+-- what a name's number tells
+abbrev pub toldBy : ℕ → Found
+toldBy r = cond (ltb r 0x10000) (Found.Program (rowVariant r)) Found.Nothing
+
+pub told-low : (n : ℕ) → toldBy (n % 0x10000) ≡ Found.Program (rowVariant n)
+told-low n =
+    let a : n % 0x10000 < 0x10000 = omega arith in
+    let b : n % 0x10000 / 0x100 % 256 ≡ n / 0x100 % 256 = omega arith in
+    let c : n % 0x10000 / 0x10 % 16 ≡ n / 0x10 % 16 = omega arith in
+    let d : n % 0x10000 % 16 ≡ n % 16 = omega arith in
+    rw (lt-ltb _ _ a, b, c, d)
 
 -- a first piece that reads a second: without one, and by both numbers
 abbrev pub alone : ℕ → Found

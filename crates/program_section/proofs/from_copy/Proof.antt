@@ -8,6 +8,7 @@ use lib.Seq.{length-front, take-at, take-take}
 use Rattle.model.specs.ProgramName.{programOf}
 use Rattle.stream.specs.Stream.{bytesAt}
 use Rattle.program_section.specs.Found.{Tells}
+use Rattle.program_section.specs.Table.{toldBy}
 use borrow.Author.Needs.{needs}
 use Rattle.program_section.proofs.from_copy.Statement.{statement}
 use Rattle.program_section.proofs.from_copy.Tie as tie
@@ -46,7 +47,7 @@ returns c =
     let last = b .last .1 .1 .1 .0 in
     let e : length last ≡ a .m = omega (arith, simp length-take at (b .kept .1 .1 .1 .0)) in
     let k : length {A = ℕ} (take (a .m - 0) (replicate 42 0)) ≡ a .m = rw length-take (omega arith) in
-    subst (Tells (c .from-window .result))
+    subst (Tells (toldBy (c .from-window .result)))
     (ap programOf (take-take (a .m) 42 _ (omega arith) ∙ take-at last _ (a .m) e ∙ b .ensures ∙ ap (bytesAt (now (a .d)) (a .gap) (a .at)) k))
     (c .from-window .ensures)
 

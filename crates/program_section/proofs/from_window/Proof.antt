@@ -7,6 +7,7 @@ use native.Mathlib.Omega.{arith}
 use denote.Ref.{now}
 use lib.ListN.{length, take, drop, length-drop}
 use lib.Seq.{take-all}
+use borrow.Author.Tests.{lt-ltb}
 use Rattle.program_section.specs.Pieces.{until}
 use Rattle.program_section.specs.Window.{window-long, window-first, window-none, window-alone, window-followed}
 use borrow.Author.Needs.{needs}
@@ -27,15 +28,12 @@ returns c =
 number-requires : tie.Need-number-requires
 number-requires c κs = search needs
 
-row-variant-requires : tie.Need-row-variant-requires
-row-variant-requires c κs = search needs
-
 returns-2 : tie.Need-returns-2
 returns-2 c =
-    let n = c .before .before in
+    let n = c .before in
     let a = n .before .before .before .before .args in
-    rw (c .row-variant .ensures)
-    (window-first (now (a .v)) (a .m) (omega arith) _ (n .number .result) (first-is n) (n .number .ensures) (c .before .if2 .taken))
+    rw (lt-ltb _ _ (c .if2 .taken))
+    (window-first (now (a .v)) (a .m) (omega arith) _ (n .number .result) (first-is n) (n .number .ensures) (c .if2 .taken))
 
 returns-3 : tie.Need-returns-3
 returns-3 c =
@@ -100,7 +98,6 @@ from-window-spec =
     piece-requires
     returns
     number-requires
-    row-variant-requires
     returns-2
     returns-3
     alone-requires
