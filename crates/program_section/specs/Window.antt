@@ -1,19 +1,19 @@
 -- A name that is the first m bytes of a longer list: its pieces lie there, and their numbers tell it.
-use mathlib.Core.Path.{_≡_, refl, sym, ap, subst, _∙_}
-use mathlib.Core.Bool.{Bool, true, false, _&&_}
+use mathlib.Core.Path.{_≡_, refl, sym, ap, _∙_}
+use mathlib.Core.Bool.{Bool, true, _&&_}
 use mathlib.Core.List.{List, [], _∷_}
-use mathlib.Core.Option.{Option, none, some}
+use mathlib.Core.Option.{none, some}
 use Prim.Native.Nat.{ℕ, zero, suc, _-_, _<_, _≤_, min}
 use native.Mathlib.Nat.{zero-min, min-zero, suc-min-suc}
 use native.Mathlib.Omega.{arith}
 use borrow.Author.Tests.{eqb-true, ltb-true, lt-ltb, le-ltb}
 use lib.Dec.{eqb, ltb}
-use lib.ListN.{length, take, drop, length-take, length-drop}
+use lib.ListN.{length, take, drop, length-take}
 use lib.Seq.{length-take-le, take-take, take-nil}
 use Rattle.model.specs.ProgramName.{cut, firstPiece, secondPiece, programOf}
 use Rattle.program_section.specs.declared.Found.{Found}
 use Rattle.program_section.specs.Same.{and-left, and-right}
-use Rattle.program_section.specs.Pieces.{until, until-le, behind, piece, first-piece, second-piece}
+use Rattle.program_section.specs.Pieces.{until, until-le, piece, first-piece, second-piece}
 use Rattle.program_section.specs.Short.{long-name}
 use Rattle.program_section.specs.Found.{rowVariant, Tells}
 use Rattle.program_section.specs.Words.{Entry, answering, reading, second, words, nothing, number, short-word}

@@ -1,14 +1,14 @@
 -- `from_stream` meets its contract: the bytes lie in one block or are copied.
 use mathlib.Core.Path.{_≡_, sym, ap, subst, _∙_}
-use mathlib.Core.List.{List}
 use Prim.Native.Nat.{ℕ, _+_, _-_, _%_}
 use native.Mathlib.Omega.{arith}
 use denote.Ref.{now}
 use lib.ListN.{take, drop}
+use lib.Seq.{take-take}
 use Rattle.model.specs.ProgramName.{programOf}
 use Rattle.stream.specs.declared.Run.{Run}
 use Rattle.stream.specs.Stream.{place, bytesAt}
-use Rattle.stream.specs.Laws.{bytes-block, take-bytes}
+use Rattle.stream.specs.Laws.{bytes-block}
 use Rattle.stream.specs.Run.{run-at, run-room, run-one}
 use Rattle.program_section.specs.Found.{Tells}
 use Rattle.program_section.specs.Table.{toldBy}
@@ -56,13 +56,12 @@ returns-3 c =
     let at : i ≡ place (a .gap) (a .at) = ap (λ (r : Run). r .at) (n .new .ensures) ∙ run-at (a .gap) (a .at) in
     let room : n .new .result .room ≡ 508 - a .at % 508 = ap (λ (r : Run). r .room) (n .new .ensures) ∙ run-room (a .gap) (a .at) in
     let l : i + 42 - i ≡ 42 = omega arith in
-    let b : take (i + 42 - i) (drop i d) ≡ bytesAt d (a .gap) (a .at) 42 =
-    ap (λ (k : ℕ). take k (drop i d)) l
-    ∙ ap (λ (k : ℕ). take 42 (drop k d)) at
-    ∙ sym (bytes-block d (a .gap) (a .at) 42 (omega (arith, c .before .before .before .if1 .left)) (omega (arith, c .before .before .if2 .left)))
+    let b : take (a .m) (take (i + 42 - i) (drop i d)) ≡ bytesAt d (a .gap) (a .at) (a .m) =
+    take-take (a .m) (i + 42 - i) (drop i d) (omega arith)
+    ∙ ap (λ (k : ℕ). take (a .m) (drop k d)) at
+    ∙ sym (bytes-block d (a .gap) (a .at) (a .m) (omega (arith, c .before .before .before .if1 .left)) (omega (arith, c .before .before .if2 .left)))
     in
-    subst (Tells (toldBy (c .from-window .result)))
-    (ap (λ (s : List ℕ). programOf (take (a .m) s)) b ∙ ap programOf (take-bytes d (a .gap) (a .at) 42 (a .m) (omega arith)))
+    subst (Tells (toldBy (c .from-window .result))) (ap programOf b)
     (c .from-window .ensures)
 
 pub from-stream-spec : {M : Type 1} → statement M

@@ -1,5 +1,4 @@
 -- `key` meets its contract: the bytes are below 256.
-use native.Mathlib.Omega.{arith}
 use borrow.Author.Needs.{needs}
 use Rattle.program_section.proofs.key.Statement.{statement}
 use Rattle.program_section.proofs.key.Tie as tie

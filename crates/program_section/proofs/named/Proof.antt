@@ -1,6 +1,5 @@
 -- `named` meets its contract: by whether the words are the same.
 use mathlib.Core.Path.{sym, _∙_}
-use borrow.Author.Tests.{not-true, not-false}
 use borrow.Author.Needs.{needs}
 use Rattle.program_section.proofs.named.Statement.{statement}
 use Rattle.program_section.proofs.named.Tie as tie
