@@ -68,7 +68,11 @@ fn total(d: &[u8], t: &[u32], v: View, part: Part, order: &[u32], n: usize) -> u
 // Those of number j into out, from `at` on; where they end.
 fn put_one(d: &[u8], t: &[u32], v: View, part: Part, j: u32, out: &mut [u8], at: usize) -> usize
     requires { ⌜ Readable (now d) (now t) v × PartFits part (now d) (now t) v j × (at + length (partOf part (now d) (now t) v j) ≤ length (now out)) ⌝ }
-    ensures { λ r. ⌜ (r ≡ at + length (partOf part (now (d .entry)) (now (t .entry)) v j)) × (now (out .exit) ≡ take at (now (out .entry)) ++ (partOf part (now (d .entry)) (now (t .entry)) v j ++ drop r (now (out .entry)))) ⌝ }
+    ensures { λ r.
+        ⌜
+        (r ≡ at + length (partOf part (now (d .entry)) (now (t .entry)) v j))
+        × (now (out .exit) ≡ take at (now (out .entry)) ++ (partOf part (now (d .entry)) (now (t .entry)) v j ++ drop r (now (out .entry))))
+        ⌝ }
 {
     match part {
         Part::Name(which) => pieces::put_name(d, t, v, which, j, out, at),
@@ -89,7 +93,12 @@ fn put_part(
     at: usize,
 ) -> usize
     requires { ⌜ Listed part (now d) (now t) v (now order) n × (at + length (each (partOf part (now d) (now t) v) (take n (now order))) ≤ length (now out)) ⌝ }
-    ensures { λ r. ⌜ (r ≡ at + length (each (partOf part (now (d .entry)) (now (t .entry)) v) (take n (now (order .entry))))) × (now (out .exit) ≡ take at (now (out .entry)) ++ (each (partOf part (now (d .entry)) (now (t .entry)) v) (take n (now (order .entry))) ++ drop r (now (out .entry)))) ⌝ }
+    ensures { λ r.
+        ⌜
+        (r ≡ at + length (each (partOf part (now (d .entry)) (now (t .entry)) v) (take n (now (order .entry)))))
+        × (now (out .exit)
+        ≡ take at (now (out .entry)) ++ (each (partOf part (now (d .entry)) (now (t .entry)) v) (take n (now (order .entry))) ++ drop r (now (out .entry))))
+        ⌝ }
 {
     let mut o = at;
     let mut k: usize = 0;
@@ -112,7 +121,11 @@ fn license_length(d: &[u8], t: &[u32], v: View) -> usize
 // The licence at the front of out; where it ends.
 fn put_license(d: &[u8], t: &[u32], v: View, out: &mut [u8]) -> usize
     requires { ⌜ Readable (now d) (now t) v × (length (licenceOf (objectIn (now d) (now t) v)) ≤ length (now out)) ⌝ }
-    ensures { λ r. ⌜ (r ≡ length (licenceOf (objectIn (now (d .entry)) (now (t .entry)) v))) × (now (out .exit) ≡ licenceOf (objectIn (now (d .entry)) (now (t .entry)) v) ++ drop r (now (out .entry))) ⌝ }
+    ensures { λ r.
+        ⌜
+        (r ≡ length (licenceOf (objectIn (now (d .entry)) (now (t .entry)) v)))
+        × (now (out .exit) ≡ licenceOf (objectIn (now (d .entry)) (now (t .entry)) v) ++ drop r (now (out .entry)))
+        ⌝ }
 {
     match license_of(d, t, v) {
         LicenseAt::Gpl => {
@@ -136,7 +149,11 @@ pub fn layout(
     functions: &[u32],
     maps: &[u32],
 ) -> Places
-    requires { ⌜ Readable (now d) (now t) v × (objectRefusal (objectIn (now d) (now t) v) ≡ none) × Held (now d) (now t) v n (now sections) (now programs) (now functions) (now maps) ⌝ }
+    requires { ⌜
+        Readable (now d) (now t) v
+        × (objectRefusal (objectIn (now d) (now t) v) ≡ none)
+        × Held (now d) (now t) v n (now sections) (now programs) (now functions) (now maps)
+        ⌝ }
     ensures { λ r. ⌜ At (catalogue (now (d .entry)) (now (t .entry)) v) r ⌝ }
 {
     let sections_at = license_length(d, t, v);
@@ -172,8 +189,17 @@ pub fn put(
     maps: &[u32],
     out: &mut [u8],
 )
-    requires { ⌜ Readable (now d) (now t) v × (objectRefusal (objectIn (now d) (now t) v) ≡ none) × Held (now d) (now t) v n (now sections) (now programs) (now functions) (now maps) × (length (bytesOf (catalogue (now d) (now t) v)) ≤ length (now out)) ⌝ }
-    ensures { λ r. ⌜ now (out .exit) ≡ bytesOf (catalogue (now (d .entry)) (now (t .entry)) v) ++ drop (length (bytesOf (catalogue (now (d .entry)) (now (t .entry)) v))) (now (out .entry)) ⌝ }
+    requires { ⌜
+        Readable (now d) (now t) v
+        × (objectRefusal (objectIn (now d) (now t) v) ≡ none)
+        × Held (now d) (now t) v n (now sections) (now programs) (now functions) (now maps)
+        × (length (bytesOf (catalogue (now d) (now t) v)) ≤ length (now out))
+        ⌝ }
+    ensures { λ r.
+        ⌜
+        now (out .exit)
+        ≡ bytesOf (catalogue (now (d .entry)) (now (t .entry)) v) ++ drop (length (bytesOf (catalogue (now (d .entry)) (now (t .entry)) v))) (now (out .entry))
+        ⌝ }
 {
     let a = put_license(d, t, v, out);
     let section_name = Part::Name(Piece::SectionName);

@@ -25,7 +25,11 @@ pub fn code_length(d: &[u8], t: &[u32], v: View, j: u32) -> usize
 // That code into out, from `at` on; where it ends.
 pub fn put_code(d: &[u8], t: &[u32], v: View, j: u32, out: &mut [u8], at: usize) -> usize
     requires { ⌜ Readable (now d) (now t) v × FunctionFits (now d) (now t) v j × (at + length (codeAt (now d) (now t) v j) ≤ length (now out)) ⌝ }
-    ensures { λ r. ⌜ (r ≡ at + length (codeAt (now (d .entry)) (now (t .entry)) v j)) × (now (out .exit) ≡ take at (now (out .entry)) ++ (codeAt (now (d .entry)) (now (t .entry)) v j ++ drop r (now (out .entry)))) ⌝ }
+    ensures { λ r.
+        ⌜
+        (r ≡ at + length (codeAt (now (d .entry)) (now (t .entry)) v j))
+        × (now (out .exit) ≡ take at (now (out .entry)) ++ (codeAt (now (d .entry)) (now (t .entry)) v j ++ drop r (now (out .entry))))
+        ⌝ }
 {
     let m = member_at(d, t, v, j);
     let y = m.symbol;

@@ -179,7 +179,10 @@ fn put_program(out: &mut [u8], at: usize, bytes: &[u8], programs: &[u64], p: usi
 
 fn put_programs(out: &mut [u8], at: usize, bytes: &[u8], programs: &[u64], n: u64) -> usize
     requires { ⌜ (at ≤ length (now out)) × (n * 7 ≤ length (now programs)) ⌝ }
-    ensures { λ r. ⌜ Laid at (each programLine (records (programRead (now (bytes .entry))) 7 n (now (programs .entry)))) (now (out .entry)) r (now (out .exit)) ⌝ }
+    ensures { λ r.
+        ⌜
+        Laid at (each programLine (records (programRead (now (bytes .entry))) 7 n (now (programs .entry)))) (now (out .entry)) r (now (out .exit))
+        ⌝ }
 {
     let mut o = at;
     let mut p: usize = 0;
@@ -208,7 +211,10 @@ fn put_function(out: &mut [u8], at: usize, bytes: &[u8], functions: &[u64], p: u
 
 fn put_functions(out: &mut [u8], at: usize, bytes: &[u8], functions: &[u64], n: u64) -> usize
     requires { ⌜ (at ≤ length (now out)) × (n * 7 ≤ length (now functions)) ⌝ }
-    ensures { λ r. ⌜ Laid at (each functionLine (records (functionFrom (now (bytes .entry))) 7 n (now (functions .entry)))) (now (out .entry)) r (now (out .exit)) ⌝ }
+    ensures { λ r.
+        ⌜
+        Laid at (each functionLine (records (functionFrom (now (bytes .entry))) 7 n (now (functions .entry)))) (now (out .entry)) r (now (out .exit))
+        ⌝ }
 {
     let mut o = at;
     let mut p: usize = 0;
@@ -289,7 +295,10 @@ fn put_catalogue(
     bytes: &[u8],
 ) -> usize
     requires { ⌜ (at ≤ length (now out)) × RowsFit h (now programs) (now functions) (now maps) ⌝ }
-    ensures { λ r. ⌜ Laid at (flatText h (now (programs .entry)) (now (functions .entry)) (now (maps .entry)) (now (bytes .entry))) (now (out .entry)) r (now (out .exit)) ⌝ }
+    ensures { λ r.
+        ⌜
+        Laid at (flatText h (now (programs .entry)) (now (functions .entry)) (now (maps .entry)) (now (bytes .entry))) (now (out .entry)) r (now (out .exit))
+        ⌝ }
 {
     let version = h.version;
     let mut o = put_top(out, at, bytes, h.license, version);
@@ -320,7 +329,11 @@ pub fn put_answer(
     bytes: &[u8],
 ) -> usize
     requires { ⌜ (at ≤ length (now out)) × AnswerFits answer (now programs) (now functions) (now maps) ⌝ }
-    ensures { λ r. ⌜ Laid at (flatAnswer answer (now (programs .entry)) (now (functions .entry)) (now (maps .entry)) (now (bytes .entry))) (now (out .entry)) r (now (out .exit)) ⌝ }
+    ensures { λ r.
+        ⌜
+        Laid at (flatAnswer answer (now (programs .entry)) (now (functions .entry)) (now (maps .entry)) (now (bytes .entry))) (now (out .entry)) r
+        (now (out .exit))
+        ⌝ }
 {
     match answer {
         Answer::Accepted(h) => put_catalogue(out, at, h, programs, functions, maps, bytes),

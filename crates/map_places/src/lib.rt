@@ -41,7 +41,13 @@ fn clear(by: &mut [u32], n: usize)
 
 // From the last map to the first, so that a section keeps its first.
 pub fn maps_by_section(d: &[u8], t: &[u32], v: View, maps: &[u32], n: usize, by: &mut [u32])
-    requires { ⌜ Readable (now d) (now t) v × (n ≤ length (now maps)) × (n < 2 ^ 32) × (v .sections ≤ length (now by)) × ((k : ℕ) → k < n → MapFits (now d) (now t) v (getD (now maps) k 0)) ⌝ }
+    requires { ⌜
+        Readable (now d) (now t) v
+        × (n ≤ length (now maps))
+        × (n < 2 ^ 32)
+        × (v .sections ≤ length (now by))
+        × ((k : ℕ) → k < n → MapFits (now d) (now t) v (getD (now maps) k 0))
+        ⌝ }
     ensures { λ r. ⌜ now (by .exit) ≡ mapPlaces (now (d .entry)) (now (t .entry)) v (take n (now (maps .entry))) ++ drop (v .sections) (now (by .entry)) ⌝ }
 {
     clear(by, size(v.sections));

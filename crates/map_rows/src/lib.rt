@@ -155,7 +155,15 @@ pub fn put_map_rows(
     own: usize,
     out: &mut [u64],
 )
-    requires { ⌜ Readable (now d) (now t) v × (n ≤ length (now order)) × (n < 2 ^ 20) × (at < 2 ^ 62) × (own < 2 ^ 62) × (n * 27 ≤ length (now out)) × ((k : ℕ) → k < n → MapFits (now d) (now t) v (getD (now order) k 0)) ⌝ }
+    requires { ⌜
+        Readable (now d) (now t) v
+        × (n ≤ length (now order))
+        × (n < 2 ^ 20)
+        × (at < 2 ^ 62)
+        × (own < 2 ^ 62)
+        × (n * 27 ≤ length (now out))
+        × ((k : ℕ) → k < n → MapFits (now d) (now t) v (getD (now order) k 0))
+        ⌝ }
     ensures { λ r. ⌜ now (out .exit) ≡ mapRows (now (d .entry)) (now (t .entry)) v at own (take n (now (order .entry))) ++ drop (n * 27) (now (out .entry)) ⌝ }
 {
     let mut place = at;

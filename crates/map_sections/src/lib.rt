@@ -47,7 +47,12 @@ pub fn map_symbols(
     hi: usize,
 ) -> Checked
     requires { ⌜ hi ≤ length (now order) ⌝ }
-    ensures { λ r. ⌜ r ≡ checkedOf (firstIn (mapSymbolRefusal (sectionFrom (now (d .entry)) (now (t .entry)) v s)) (map (symbolIn (now (d .entry)) (now (t .entry)) v) (slice lo hi (now (order .entry))))) ⌝ }
+    ensures { λ r.
+        ⌜
+        r
+        ≡ checkedOf
+        (firstIn (mapSymbolRefusal (sectionFrom (now (d .entry)) (now (t .entry)) v s)) (map (symbolIn (now (d .entry)) (now (t .entry)) v) (slice lo hi (now (order .entry)))))
+        ⌝ }
 {
     let mut i = lo;
     while i < hi {
@@ -90,8 +95,14 @@ pub fn map_numbers(
     out: &mut [u32],
     w: usize,
 ) -> usize
-    requires { ⌜ (lo ≤ hi) × (hi ≤ length (now order)) × (w + (hi - lo) ≤ length (now out)) × ((k : ℕ) → lo ≤ k → k < hi → sections + getD (now order) k 0 < 2 ^ 32) ⌝ }
-    ensures { λ r. ⌜ (r ≡ w + length (mapNumbers sections (slice lo hi (now (order .entry))))) × (now (out .exit) ≡ take w (now (out .entry)) ++ (mapNumbers sections (slice lo hi (now (order .entry))) ++ drop r (now (out .entry)))) ⌝ }
+    requires { ⌜
+        (lo ≤ hi) × (hi ≤ length (now order)) × (w + (hi - lo) ≤ length (now out)) × ((k : ℕ) → lo ≤ k → k < hi → sections + getD (now order) k 0 < 2 ^ 32)
+        ⌝ }
+    ensures { λ r.
+        ⌜
+        (r ≡ w + length (mapNumbers sections (slice lo hi (now (order .entry)))))
+        × (now (out .exit) ≡ take w (now (out .entry)) ++ (mapNumbers sections (slice lo hi (now (order .entry))) ++ drop r (now (out .entry))))
+        ⌝ }
 {
     let mut n = w;
     let mut i = lo;

@@ -54,7 +54,11 @@ pub fn own_length(d: &[u8], t: &[u32], v: View, n: u32) -> usize
 // What map number n owns into out, from `at` on; where it ends.
 pub fn put_own(d: &[u8], t: &[u32], v: View, n: u32, out: &mut [u8], at: usize) -> usize
     requires { ⌜ Readable (now d) (now t) v × (at + length (ownBytes (now d) (now t) v n) ≤ length (now out)) ⌝ }
-    ensures { λ r. ⌜ (r ≡ at + length (ownBytes (now (d .entry)) (now (t .entry)) v n)) × (now (out .exit) ≡ take at (now (out .entry)) ++ (ownBytes (now (d .entry)) (now (t .entry)) v n ++ drop r (now (out .entry)))) ⌝ }
+    ensures { λ r.
+        ⌜
+        (r ≡ at + length (ownBytes (now (d .entry)) (now (t .entry)) v n))
+        × (now (out .exit) ≡ take at (now (out .entry)) ++ (ownBytes (now (d .entry)) (now (t .entry)) v n ++ drop r (now (out .entry))))
+        ⌝ }
 {
     match own_of(d, t, v, n) {
         Own::Nothing => at,

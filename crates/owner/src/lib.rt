@@ -96,7 +96,11 @@ pub fn home(d: &[u8], t: &[u32], v: View, y: SymbolRecord) -> u32
 // Symbol j with its section.
 pub fn member_at(d: &[u8], t: &[u32], v: View, j: u32) -> Member
     requires { ⌜ Readable (now d) (now t) v ⌝ }
-    ensures { λ r. ⌜ (r .symbol ≡ symbolAt (now (d .entry)) (now (t .entry)) v j) × (r .section ≡ sectionAt (now (d .entry)) (now (t .entry)) v (homeIn (now (d .entry)) (now (t .entry)) v j)) ⌝ }
+    ensures { λ r.
+        ⌜
+        (r .symbol ≡ symbolAt (now (d .entry)) (now (t .entry)) v j)
+        × (r .section ≡ sectionAt (now (d .entry)) (now (t .entry)) v (homeIn (now (d .entry)) (now (t .entry)) v j))
+        ⌝ }
 {
     let symbol = records::symbol(d, t, v, j);
     let section = records::section(d, t, v, home(d, t, v, symbol));

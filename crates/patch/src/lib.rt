@@ -49,8 +49,18 @@ fn patch_symbol(
     len: usize,
     bytes: &mut [u8],
 )
-    requires { ⌜ Readable (now d) (now t) v × (v .sections ≤ length (now by)) × (from + len ≤ length (now patches)) × Reached (now d) (now t) v (now by) (now rows) own y len (length (now bytes)) ⌝ }
-    ensures { λ r. ⌜ now (bytes .exit) ≡ sets (now (bytes .entry)) (targetOf (now (d .entry)) (now (t .entry)) v (now (by .entry)) (now (rows .entry)) own y) (part (now (patches .entry)) from len) ⌝ }
+    requires { ⌜
+        Readable (now d) (now t) v
+        × (v .sections ≤ length (now by))
+        × (from + len ≤ length (now patches))
+        × Reached (now d) (now t) v (now by) (now rows) own y len (length (now bytes))
+        ⌝ }
+    ensures { λ r.
+        ⌜
+        now (bytes .exit)
+        ≡ sets (now (bytes .entry)) (targetOf (now (d .entry)) (now (t .entry)) v (now (by .entry)) (now (rows .entry)) own y)
+        (part (now (patches .entry)) from len)
+        ⌝ }
 {
     let place = place_of(d, t, v, by, y);
     let row = 27 * (place - 1);
@@ -72,7 +82,12 @@ fn patch_entry(
     own: usize,
     bytes: &mut [u8],
 )
-    requires { ⌜ Ready (now d) (now t) v (now order) (now by) (now rows) own × (e < countOf (now entries)) × checksAt (now d) (now t) v (now entries) (now patches) e × (now bytes ≡ ownAt (now d) (now t) v (now entries) (now patches) e) ⌝ }
+    requires { ⌜
+        Ready (now d) (now t) v (now order) (now by) (now rows) own
+        × (e < countOf (now entries))
+        × checksAt (now d) (now t) v (now entries) (now patches) e
+        × (now bytes ≡ ownAt (now d) (now t) v (now entries) (now patches) e)
+        ⌝ }
     ensures { λ r. ⌜ now (bytes .exit) ≡ ownAt (now (d .entry)) (now (t .entry)) v (now (entries .entry)) (now (patches .entry)) (e + 1) ⌝ }
 {
     let x = entry_at(entries, e);
@@ -103,8 +118,17 @@ pub fn patch_own(
     own: usize,
     bytes: &mut [u8],
 )
-    requires { ⌜ Ready (now d) (now t) v (now order) (now by) (now rows) own × (patchRefusal (objectIn (now d) (now t) v) (objectMaps (now d) (now t) v) 1 (patchesOf (now entries) (now patches)) ≡ none) × (now bytes ≡ each mapOwn (objectMaps (now d) (now t) v)) ⌝ }
-    ensures { λ r. ⌜ now (bytes .exit) ≡ each mapOwn (patched (objectIn (now (d .entry)) (now (t .entry)) v) (patchesOf (now (entries .entry)) (now (patches .entry))) (catalogueOf (objectIn (now (d .entry)) (now (t .entry)) v)) .maps) ⌝ }
+    requires { ⌜
+        Ready (now d) (now t) v (now order) (now by) (now rows) own
+        × (patchRefusal (objectIn (now d) (now t) v) (objectMaps (now d) (now t) v) 1 (patchesOf (now entries) (now patches)) ≡ none)
+        × (now bytes ≡ each mapOwn (objectMaps (now d) (now t) v))
+        ⌝ }
+    ensures { λ r.
+        ⌜
+        now (bytes .exit)
+        ≡ each mapOwn
+        (patched (objectIn (now (d .entry)) (now (t .entry)) v) (patchesOf (now (entries .entry)) (now (patches .entry))) (catalogueOf (objectIn (now (d .entry)) (now (t .entry)) v)) .maps)
+        ⌝ }
 {
     let count = (entries.len() + 4) / 5;
     let mut e: usize = 0;
@@ -128,8 +152,19 @@ pub fn patch_map_data(
     end: usize,
     bytes: &mut [u8],
 )
-    requires { ⌜ Ready (now d) (now t) v (now order) (now by) (now rows) own × (patchRefusal (objectIn (now d) (now t) v) (objectMaps (now d) (now t) v) 1 (patchesOf (now entries) (now patches)) ≡ none) × (own ≤ end) × (end ≤ length (now bytes)) × (part (now bytes) own (end - own) ≡ each mapOwn (objectMaps (now d) (now t) v)) ⌝ }
-    ensures { λ r. ⌜ now (bytes .exit) ≡ take own (now (bytes .entry)) ++ (each mapOwn (patched (objectIn (now (d .entry)) (now (t .entry)) v) (patchesOf (now (entries .entry)) (now (patches .entry))) (catalogueOf (objectIn (now (d .entry)) (now (t .entry)) v)) .maps) ++ drop end (now (bytes .entry))) ⌝ }
+    requires { ⌜
+        Ready (now d) (now t) v (now order) (now by) (now rows) own
+        × (patchRefusal (objectIn (now d) (now t) v) (objectMaps (now d) (now t) v) 1 (patchesOf (now entries) (now patches)) ≡ none)
+        × (own ≤ end)
+        × (end ≤ length (now bytes))
+        × (part (now bytes) own (end - own) ≡ each mapOwn (objectMaps (now d) (now t) v))
+        ⌝ }
+    ensures { λ r.
+        ⌜
+        now (bytes .exit)
+        ≡ take own (now (bytes .entry)) ++
+        (each mapOwn (patched (objectIn (now (d .entry)) (now (t .entry)) v) (patchesOf (now (entries .entry)) (now (patches .entry))) (catalogueOf (objectIn (now (d .entry)) (now (t .entry)) v)) .maps) ++ drop end (now (bytes .entry)))
+        ⌝ }
 {
     patch_own(
         d,

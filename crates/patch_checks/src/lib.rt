@@ -118,7 +118,10 @@ fn place_refusal(
     e: u64,
 ) -> Checked
     requires { ⌜ Sited (now d) (now t) v (now maps) n (now by) ⌝ }
-    ensures { λ r. ⌜ r ≡ checkedOf (placeRefusal (mapsOf (now (d .entry)) (now (t .entry)) v (now (maps .entry)) n) e (symbolFrom (now (d .entry)) (now (t .entry)) v y)) ⌝ }
+    ensures { λ r.
+        ⌜
+        r ≡ checkedOf (placeRefusal (mapsOf (now (d .entry)) (now (t .entry)) v (now (maps .entry)) n) e (symbolFrom (now (d .entry)) (now (t .entry)) v y))
+        ⌝ }
 {
     let place = place_of(d, t, v, by, y);
     if place == 0 {
@@ -144,7 +147,12 @@ fn symbol_refusal(
     e: u64,
 ) -> Checked
     requires { ⌜ Sited (now d) (now t) v (now maps) n (now by) ⌝ }
-    ensures { λ r. ⌜ r ≡ checkedOf (orElse (ofEntry 21 e (not (eqb length (symbolIn (now (d .entry)) (now (t .entry)) v j .size)))) (placeRefusal (mapsOf (now (d .entry)) (now (t .entry)) v (now (maps .entry)) n) e (symbolIn (now (d .entry)) (now (t .entry)) v j))) ⌝ }
+    ensures { λ r.
+        ⌜
+        r
+        ≡ checkedOf
+        (orElse (ofEntry 21 e (not (eqb length (symbolIn (now (d .entry)) (now (t .entry)) v j .size)))) (placeRefusal (mapsOf (now (d .entry)) (now (t .entry)) v (now (maps .entry)) n) e (symbolIn (now (d .entry)) (now (t .entry)) v j)))
+        ⌝ }
 {
     let y = symbol(d, t, v, j);
     if length != y.size {
@@ -167,7 +175,12 @@ fn entry_refusal(
     e: u64,
 ) -> Checked
     requires { ⌜ Sited (now d) (now t) v (now maps) n (now by) × (now order ≡ byName (now d) (now t) v) ⌝ }
-    ensures { λ r. ⌜ r ≡ checkedOf (entryRefusal (objectIn (now (d .entry)) (now (t .entry)) v) (mapsOf (now (d .entry)) (now (t .entry)) v (now (maps .entry)) n) e (patchBy (now (patches .entry)) x)) ⌝ }
+    ensures { λ r.
+        ⌜
+        r
+        ≡ checkedOf
+        (entryRefusal (objectIn (now (d .entry)) (now (t .entry)) v) (mapsOf (now (d .entry)) (now (t .entry)) v (now (maps .entry)) n) e (patchBy (now (patches .entry)) x))
+        ⌝ }
 {
     if !is_lent(x, patches) {
         return of_entry(18, e);
@@ -203,7 +216,12 @@ pub fn patch_refusal(
     by: &[u32],
 ) -> Checked
     requires { ⌜ Sited (now d) (now t) v (now maps) n (now by) × (now order ≡ byName (now d) (now t) v) ⌝ }
-    ensures { λ r. ⌜ r ≡ checkedOf (patchRefusal (objectIn (now (d .entry)) (now (t .entry)) v) (mapsOf (now (d .entry)) (now (t .entry)) v (now (maps .entry)) n) 1 (patchesOf (now (entries .entry)) (now (patches .entry)))) ⌝ }
+    ensures { λ r.
+        ⌜
+        r
+        ≡ checkedOf
+        (patchRefusal (objectIn (now (d .entry)) (now (t .entry)) v) (mapsOf (now (d .entry)) (now (t .entry)) v (now (maps .entry)) n) 1 (patchesOf (now (entries .entry)) (now (patches .entry))))
+        ⌝ }
 {
     let count = (entries.len() + 4) / 5;
     let mut e: usize = 0;

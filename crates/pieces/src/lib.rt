@@ -85,7 +85,11 @@ pub fn put_name(
     at: usize,
 ) -> usize
     requires { ⌜ Placed which (now d) (now t) v j × (at + length (pieceOf which (now d) (now t) v j) ≤ length (now out)) ⌝ }
-    ensures { λ r. ⌜ (r ≡ at + length (pieceOf which (now (d .entry)) (now (t .entry)) v j)) × (now (out .exit) ≡ take at (now (out .entry)) ++ (pieceOf which (now (d .entry)) (now (t .entry)) v j ++ drop r (now (out .entry)))) ⌝ }
+    ensures { λ r.
+        ⌜
+        (r ≡ at + length (pieceOf which (now (d .entry)) (now (t .entry)) v j))
+        × (now (out .exit) ≡ take at (now (out .entry)) ++ (pieceOf which (now (d .entry)) (now (t .entry)) v j ++ drop r (now (out .entry))))
+        ⌝ }
 {
     let e = extent(d, t, v, which, j);
     let len = size(e.length);

@@ -51,7 +51,12 @@ pub fn program_symbols(
     hi: usize,
 ) -> Checked
     requires { ⌜ (hi ≤ length (now order)) ⌝ }
-    ensures { λ r. ⌜ r ≡ checkedOf (firstIn (programSymbolRefusal (sectionFrom (now (d .entry)) (now (t .entry)) v s)) (map (symbolIn (now (d .entry)) (now (t .entry)) v) (programsAmong (now (d .entry)) (now (t .entry)) v (slice lo hi (now (order .entry)))))) ⌝ }
+    ensures { λ r.
+        ⌜
+        r
+        ≡ checkedOf
+        (firstIn (programSymbolRefusal (sectionFrom (now (d .entry)) (now (t .entry)) v s)) (map (symbolIn (now (d .entry)) (now (t .entry)) v) (programsAmong (now (d .entry)) (now (t .entry)) v (slice lo hi (now (order .entry))))))
+        ⌝ }
 {
     let mut i = lo;
     while i < hi {
@@ -107,7 +112,12 @@ pub fn program_numbers(
     w: usize,
 ) -> usize
     requires { ⌜ (lo ≤ hi) × (hi ≤ length (now order)) × (w + (hi - lo) ≤ length (now out)) ⌝ }
-    ensures { λ r. ⌜ (r ≡ w + length (programsAmong (now (d .entry)) (now (t .entry)) v (slice lo hi (now (order .entry))))) × (now (out .exit) ≡ take w (now (out .entry)) ++ (programsAmong (now (d .entry)) (now (t .entry)) v (slice lo hi (now (order .entry))) ++ drop r (now (out .entry)))) ⌝ }
+    ensures { λ r.
+        ⌜
+        (r ≡ w + length (programsAmong (now (d .entry)) (now (t .entry)) v (slice lo hi (now (order .entry)))))
+        × (now (out .exit)
+        ≡ take w (now (out .entry)) ++ (programsAmong (now (d .entry)) (now (t .entry)) v (slice lo hi (now (order .entry))) ++ drop r (now (out .entry))))
+        ⌝ }
 {
     let mut n = w;
     let mut i = lo;

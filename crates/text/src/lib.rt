@@ -86,7 +86,10 @@ pub fn symbol_table_conflict(
     hi: usize,
 ) -> Conflict
     requires { ⌜ (lo ≤ hi) × (hi ≤ length (now order)) ⌝ }
-    ensures { λ r. ⌜ r ≡ conflictOf (leastAgain (addressIn (now (d .entry)) (now (t .entry)) v) (textGroup (now (d .entry)) (now (t .entry)) v (now (order .entry)) lo hi)) ⌝ }
+    ensures { λ r.
+        ⌜
+        r ≡ conflictOf (leastAgain (addressIn (now (d .entry)) (now (t .entry)) v) (textGroup (now (d .entry)) (now (t .entry)) v (now (order .entry)) lo hi))
+        ⌝ }
 {
     let mut a = Again {
         seen: false,
