@@ -99,7 +99,7 @@ def mty(t, byval=True):
     if k == 'tyInt': return 'tyInt w' + t[1]
     if k == 'tyNamed':
         n = t[1][1].strip('"')
-        return {'model::Answer': 'F′.mir', 'object_view::Opened': 'O′.mir', 'load_core::Loaded': 'L′.mir'}.get(n) or ('T′.mir' if byval else 'pointee (T.the-row .written)')
+        return {'model::Answer': 'F′.mir', 'object_view::Opened': 'O′.mir', 'load_object::Loaded': 'L′.mir'}.get(n) or ('T′.mir' if byval else 'pointee (T.the-row .written)')
     if k == 'tyStruct': return 'sliceTy (%s)' % mty(W['lst'](t[2])[0])
     if k == 'tyRef': return 'tyRef %s %s %s' % (t[1] if isinstance(t[1], str) else '(named %s)' % t[1][1], t[2], par(mty(t[3], False)))
     if k == 'tyArray': return 'tyArray %s N' % par(mty(t[1]))

@@ -93,8 +93,8 @@ module _ {{M : Type 1}} (𝓤 : URA M) (H : Heap 𝓤) (A : Atoms 𝓤) (mem : M
 module _ {{M : Type 1}} (𝓤 : URA M) (H : Heap 𝓤) (A : Atoms 𝓤) (W : Given 𝓤 H A) (mem : Memory → SProp 𝓤) (run : Routine → Fun 𝓤)
     {S.KQX}
     {S.ROOMS} where
-  abbrev lent : Room
-  lent = {S.room(X_)[1:-1]}
+  abbrev lengths : LentRoom
+  lengths = {S.room(X_)[1:-1]}
 
   abbrev Toks : Item 𝓤
   Toks = {S.toks}
@@ -108,7 +108,7 @@ module _ {{M : Type 1}} (𝓤 : URA M) (H : Heap 𝓤) (A : Atoms 𝓤) (W : Giv
   abbrev Post : Val → SProp 𝓤
   Post = walkOf 𝓤 H A f.ended stayed (f.clauses 𝓤 H A mem run) .post at
 
-  exits : (r : Answer) (w : Val) {S.zparams} → Loads (loadOf (x₁ .now) (x₂ .now) (x₃ .now) on lent) r {S.zn} → {S.lenT}
+  exits : (r : Answer) (w : Val) {S.zparams} → Loads (loadOf (x₁ .now) (x₂ .now) (x₃ .now) on lengths) r {S.zn} → {S.lenT}
       → ent 𝓤 (⋆ 𝓤 H A ({S.exits_items})) (Post w)
   exits r w {S.zn} e {S.lens} =
       qed W ({S.exits_items}) ∵
@@ -152,13 +152,13 @@ module _ {{M : Type 1}} (𝓤 : URA M) (H : Heap 𝓤) (A : Atoms 𝓤) (W : Giv
 
   -- what `load_opened` says, of what was opened
   abbrev LoadsOf : Opened → Answer → {' → '.join('List ' + d for _, d in S.zl)} → Type 0
-  LoadsOf o r {S.zn} = Loads (outcome lent (verdictIn (x₁ .now) [] o (x₂ .now) (x₃ .now) on)) r {S.zn}
+  LoadsOf o r {S.zn} = Loads (outcomeIn lengths (verdictIn (x₁ .now) [] o (x₂ .now) (x₃ .now) on)) r {S.zn}
 
   abbrev Says : Opened → Answer → Lasts → Type 0
   Says o r zs = LoadsOf o r {zs}
 
-  of-deposit : (o : Opened) (r : Answer) {S.zparams} → o ≡ openedOf (x₁ .now) → LoadsOf o r {S.zn} → Loads (loadOf (x₁ .now) (x₂ .now) (x₃ .now) on lent) r {S.zn}
-  of-deposit o r {S.zn} e l = subst (λ (out : Outcome). Loads out r {S.zn}) (deposit-outcome (x₁ .now) [] (x₂ .now) (x₃ .now) on lent) (subst (λ (p : Opened). LoadsOf p r {S.zn}) e l)
+  of-deposit : (o : Opened) (r : Answer) {S.zparams} → o ≡ openedOf (x₁ .now) → LoadsOf o r {S.zn} → Loads (loadOf (x₁ .now) (x₂ .now) (x₃ .now) on lengths) r {S.zn}
+  of-deposit o r {S.zn} e l = subst (λ (out : Outcome). Loads out r {S.zn}) (deposit-outcome (x₁ .now) [] (x₂ .now) (x₃ .now) on lengths) (subst (λ (p : Opened). LoadsOf p r {S.zn}) e l)
 
   module _ (C : Calls 𝓤 H) (Λ : Loops 𝓤 H) (fm : FmC 𝓤 H (W .laws) C) (known-open : Triple 𝓤 (C #open) (Opens 𝓤 H A mem run)) (known-whole : Triple 𝓤 (C #load-opened) (Whole 𝓤 H A mem run)) where
     walk : ent 𝓤 (⋆ 𝓤 H A (Toks ∷ Owned ∷ [])) (WpFn 𝓤 H C Λ code.function ({S.flat}) Post)
@@ -184,9 +184,7 @@ load-spec 𝓤 H 𝓜 𝓖 𝓡 =
     (cited 𝓤 H (Opens 𝓤 H (𝓖 .A) (𝓜 .mem) (𝓡 .run)) 𝓜 𝓡 code.env #open open-def.routine code.calls-deposit·open (open-thm.met 𝓤 H 𝓜 𝓖 𝓡))
     (cited 𝓤 H (Whole 𝓤 H (𝓖 .A) (𝓜 .mem) (𝓡 .run)) 𝓜 𝓡 code.env #load-opened whole-def.routine code.calls-load·load-opened (whole-thm.met 𝓤 H 𝓜 𝓖 𝓡)))
 '''
-# `Room` is the lent lengths' here; the room of a slice goes by another name
-body = body.replace(': Room u', ': Fits u').replace(': Room T', ': Fits T')
-H = [h.replace('MutSlice, ShrSlice, Room, finally', 'MutSlice, ShrSlice, Room as Fits, finally').replace('{Outcome, outcome, loadOf}', '{Room, Outcome, outcome, loadOf}') for h in HEADS]
+H = HEADS
 T = '-- `load::load` meets its contract: a walk of its MIR, by hand. The deposit is opened, and all that is lent is handed on to `load_opened`, with an empty index.\n' + uses(body, H) + '\n\n' + body
 os.makedirs(OUT + '/proofs/load', exist_ok=True)
 open(OUT + '/proofs/load/Proof.antt', 'w').write(T)

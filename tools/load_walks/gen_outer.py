@@ -14,7 +14,7 @@ stayed = %s
 
 module _ {M : Type 1} (𝓤 : URA M) (H : Heap 𝓤) (A : Atoms 𝓤) (W : Given 𝓤 H A) (Asks : List ℕ → List ℕ → Opened → Type 0) where
   abbrev pub clausesOf : Clauses 𝓤 load′.ended
-  clausesOf κs a = record { ghost = Unit {0}; requires = λ _. fact 𝓤 (Asks (a .0 .now) (a .1 .0 .now) (a .1 .1 .0)); ensures = λ _ r end. fact 𝓤 (Loads (outcome %s %s) r %s) }
+  clausesOf κs a = record { ghost = Unit {0}; requires = λ _. fact 𝓤 (Asks (a .0 .now) (a .1 .0 .now) (a .1 .1 .0)); ensures = λ _ r end. fact 𝓤 (Loads (outcomeIn %s %s) r %s) }
 
 ''' % (nest([S.stay(p) for p in S.P]), S.room(A_('a')), verdict(A_('a'), '(a .1 .1 .0)', '(a%s)' % proj(5)), ' '.join('(%s)' % A_('end')(p[0]) for p in S.MUTS))
 body += f'''  module _ {S.KQX} where
@@ -32,7 +32,7 @@ body += f'''  module _ {S.KQX} where
 
     -- what is said of the answer and of the six last lists
     abbrev pub Facts : Answer → {' → '.join('List ' + d for _, d in S.zl)} → Type 0
-    Facts r {S.zn} = Loads (outcome {S.room(X_)} {verdict(X_, 'opened', 'on')}) r {S.zn}
+    Facts r {S.zn} = Loads (outcomeIn {S.room(X_)} {verdict(X_, 'opened', 'on')}) r {S.zn}
 
     pub exits : (r : Answer) (w : Val) {S.zparams} → Facts r {S.zn} → {S.lenT}
         → ent 𝓤 (⋆ 𝓤 H A ({S.exits_items})) (Post w)

@@ -8,7 +8,7 @@ CUT = next(k for k, x in enumerate(SS) if x[0] == 'call') + 1
 def body_text(name, ss, last):
     out = 'abbrev %s : ℕ → Operand → Body\n%s N len =\n' % (name, name)
     n = len(ss) - (last is None)
-    for x in ss[:n]: out += '    seq (%s) (\n' % mst(x, NAMES, '256')
+    for x in ss[:n]: out += '    seq (%s) (\n' % mst(x, NAMES, '128')
     return out + '    ' + (last or mst(ss[-1], NAMES)) + ')' * n + '\n'
 MIRT += '\n\n-- what is left behind the call of `load_core`\n' + body_text('tail', SS[CUT:], None) + '\n' + body_text('body', SS[:CUT], 'tail N len')
 MIRT += '''
@@ -21,7 +21,7 @@ flat = lst([V('s', p[0]) if p[2] in ('shr', 'mut') else S.flatv(p) for p in S.P]
 c = Ctx(['Toks', 'Owns'])
 c.out.append(c.pad + 'qed W (Toks ∷ ‵ (owns (%s) a vals) ∷ []) ∵ enter ! C Λ (function N len) (%s) _ $' % (S.tys, flat))
 c.enter(fn, None); S.passes(c)
-c.lits = {'256': '(const 𝓤 H A W says-N !)'}; c.litfits = {'256': 'N-room .0'}; c.repn = 'N'
+c.lits = {'128': '(const 𝓤 H A W says-N !)'}; c.litfits = {'128': 'N-room .0'}; c.repn = 'N'
 AR = 14
 i = 0
 while SS[i][0] == 'assign':
@@ -124,7 +124,7 @@ c.nothing('own'); c.push('owned ! R.the-row (Is R.the-row) (LL.makes R.the-type 
 for q in ('so', 'o2′', 'o1′', 'o9'): c.fjoin(q, 'own', 'own')
 FT = ['k9', 'k1', 'k2', 'kν', 'true']
 c.join_all(FT, 'FToks')
-c.use(['FToks', 'own'], 'raw (Fill 𝓤 H A mem run .pre (to-fill %s ν ζ %s (r .rows) v))' % (LA, ZO), 'goes-fill %s ν ζ %s (r .rows) v (e .readable)' % (LA, ZO), 'pre'); c.nl()
+c.use(['FToks', 'own'], 'raw (Fill 𝓤 H A mem run .pre (to-fill %s ν ζ %s (r .rows) v))' % (LA, ZO), 'goes-fill %s ν ζ %s (r .rows) v (e .1)' % (LA, ZO), 'pre'); c.nl()
 call = SS[i]; i += 1
 c.bind('calls-at ! fm (Fill 𝓤 H A mem run) known-fill (to-fill %s ν ζ %s (r .rows) v) %s (λ w.' % (LA, ZO, c.opds(W['lst'](call[2])))); c.nl(); c.c[0] = 'post'
 c.e('use1 W (later (some (λ (o : Unit {0}). (FToks ν ⊛ ‵ (Nothing .own o (w ∷ []))) ⊛ raw (ensured 𝓤 H A fill.ended (fill.clauses 𝓤 H A mem run) (fill-κs ν) (fill-args %s ζ %s (r .rows)) tt o)))) (id⊢ 𝓤 _)' % (LA, ZO)); c.await_(); c.pick('o')
@@ -145,7 +145,7 @@ c.finish([0] + sorted(FATS) + list(range(28, c.n)), {AR: 'room'})
 c.join_all(['k%d' % p[0] for p in S.REFS] + ['true'], 'Toks')
 c.push('owned ! F.the-row (Is F.the-row) (EL.makes F.the-type F′.the-plain 𝓤 H A) (r .answer) _ isu', 'ans')
 c.keep('Toks', *['fin%d' % p[0] for p in S.MUTS], 'ans')
-c.last('by ! (exits (r .answer) _ %s (record { answer = e .answer; sections = e .sections; programs = e .programs; functions = f ∙ e .functions; maps = e .maps; relocations = e .relocations; bytes = e .bytes }) %s)' % (
+c.last('by ! (exits (r .answer) _ %s (ap (λ (fs : List Function). outcome (r .answer) (lent z₇ z₈ fs z₁₀ z₁₁ z₁₂)) f ∙ e .0) %s)' % (
     ' '.join(V('z', p[0]) if p[0] != 9 else '(ts .0)' for p in S.MUTS), S.lens))
 REST = '\n'.join(c.out)
 
@@ -183,7 +183,7 @@ module _ {{M : Type 1}} (𝓤 : URA M) (H : Heap 𝓤) (A : Atoms 𝓤) (W : Giv
   n = length (x₉ .now)
 
   abbrev result : Outcome
-  result = outcome {S.room(X_)} (verdictIn (x₁ .now) (x₂ .now) opened (x₄ .now) (x₅ .now) on)
+  result = outcomeIn {S.room(X_)} (verdictIn (x₁ .now) (x₂ .now) opened (x₄ .now) (x₅ .now) on)
 
   abbrev zs₀ : List ℕ
   zs₀ = zeros N

@@ -2,7 +2,7 @@ from common import *
 def sized(f, N, big, asks, enough, doc, opened):
     U = f.replace('_', '-'); lit = 'intBig' if big else 'int'; con = 'const-big 𝓤 H %d (lit< tt)' % N if big else 'const-int 𝓤 H %d tt' % N
     al = ['Open'] if asks == 'Open' else []
-    imp = {'Open': 'use Rattle.load_core.specs.Done.{Open, few-symbols}\nuse Rattle.load.proofs.Scratch.{%s}\nuse Rattle.load.proofs.Sized.{Core, Fill, sized}' % con.split()[0]}.get(asks,
+    imp = {'Open': 'use Rattle.load_object.specs.Done.{Open, few-symbols}\nuse Rattle.load.proofs.Scratch.{%s}\nuse Rattle.load.proofs.Sized.{Core, Fill, sized}' % con.split()[0]}.get(asks,
            'use Rattle.load.proofs.Outer.{AtMost}\nuse Rattle.load.proofs.Scratch.{%s}\nuse Rattle.load.proofs.Sized.{Core, Fill, sized}' % con.split()[0])
     return f'''-- `load::{f}` meets its contract: `Sized.antt`'s walk at {N}{doc}.
 use lib.Dec.{{lit<}}
@@ -38,7 +38,7 @@ unfolding code.routine tablesOf
 '''
 def choice(f, B, test, one, two):
     u = lambda x: x.replace('_', '-')
-    T = f"-- `load::{f}` meets its contract: `Choice.antt`'s walk, at {B} symbols.\nuse contract.Running.{{givenOf, tables, tablesOf}}\nuse denote.Triple.Spec.{{tripleOf}}\nuse denote.Triple.Table.{{entered, cited}}\nuse Rattle.load_core.specs.Done.{{Open}}\nuse Rattle.load.proofs.Choice.{{TestAt, LoadsAt, chosen}}\nuse Rattle.load.proofs.Outer.{{AtMost}}\n"
+    T = f"-- `load::{f}` meets its contract: `Choice.antt`'s walk, at {B} symbols.\nuse contract.Running.{{givenOf, tables, tablesOf}}\nuse denote.Triple.Spec.{{tripleOf}}\nuse denote.Triple.Table.{{entered, cited}}\nuse Rattle.load_object.specs.Done.{{Open}}\nuse Rattle.load.proofs.Choice.{{TestAt, LoadsAt, chosen}}\nuse Rattle.load.proofs.Outer.{{AtMost}}\n"
     for g in (test, one, two):
         T += f"use Rattle.load.proofs.{g}.Symbol as {u(g)}-def\nuse Rattle.load.proofs.{g}.Symbol.{{name as #{u(g)}}}\nuse Rattle.load.proofs.{g}.Met as {u(g)}-thm\n"
     U = u(f)
@@ -60,8 +60,8 @@ unfolding code.routine tablesOf
     return T
 def put(f, t):
     os.makedirs(OUT + '/proofs/' + f, exist_ok=True); open(OUT + '/proofs/%s/Proof.antt' % f, 'w').write(t)
-put('load_small', sized('load_small', 256, False, '(AtMost 256)', 'λ d t o asked. asked', '', False))
+put('load_small', sized('load_small', 128, False, '(AtMost 128)', 'λ d t o asked. asked', '', False))
 put('load_medium', sized('load_medium', 4096, True, '(AtMost 4096)', 'λ d t o asked. asked', '', False))
 put('load_large', sized('load_large', 65536, True, 'Open', 'λ d t o asked. (asked, few-symbols d t o asked)', '', True))
 put('load_more', choice('load_more', 4096, 'is_medium', 'load_medium', 'load_large'))
-put('load_opened', choice('load_opened', 256, 'is_small', 'load_small', 'load_more'))
+put('load_opened', choice('load_opened', 128, 'is_small', 'load_small', 'load_more'))

@@ -43,13 +43,14 @@ use denote.Triple.Walked.{says, needs, Stays, gave-slice, stay-dropped, walkOf, 
 use denote.Exit.{yes}
 use Rattle.model.specs.declared.Answer.{Answer}
 use Rattle.model.specs.declared.Function.{Function}
-use Rattle.model.specs.Lent.{Outcome, outcome, loadOf}
+use Rattle.model.specs.declared.Room.{Room as LentRoom}
+use Rattle.model.specs.Lent.{lent, Outcome, outcome, outcomeIn, loadOf}
 use Rattle.object_view.specs.declared.Opened.{Opened}
 use Rattle.deposit.specs.Open.{openedOf}
 use Rattle.function_table.specs.declared.Rows.{Rows}
 use Rattle.function_table.specs.Rows.{ReadableRows, rowsMade}
-use Rattle.load_core.specs.declared.Loaded.{Loaded}
-use Rattle.load_core.specs.Done.{lentRoom, Open, symbolsOf, verdictIn, CoreDone}
+use Rattle.load_object.specs.declared.Loaded.{Loaded}
+use Rattle.load_object.specs.Done.{lentRoom, Open, symbolsOf, verdictIn, CoreDone}
 use Rattle.load_core.specs.Core.{open-deposit, deposit-outcome}
 use Rattle.load.specs.Loads.{Loads}
 use Rattle.load.proofs.Again.{LentAgain, lends-again, comes-back}
@@ -66,8 +67,8 @@ use Rattle.object_view.proofs.Opened as O
 use Rattle.object_view.proofs.Opened.Laws as O′
 use Rattle.function_table.proofs.Rows as R
 use Rattle.function_table.proofs.Rows.Laws as R′
-use Rattle.load_core.proofs.Loaded as L
-use Rattle.load_core.proofs.Loaded.Laws as L′
+use Rattle.load_object.proofs.Loaded as L
+use Rattle.load_object.proofs.Loaded.Laws as L′
 use Rattle.load_core.proofs.load_core as core
 use Rattle.load_core.proofs.load_core.Symbol.{name as #load-core}
 use Rattle.function_table.proofs.fill as fill

@@ -1,14 +1,11 @@
 -- The answer of a load as the numbers of one struct, and what an exported call leaves behind.
-use mathlib.Core.Path.{_≡_}
-use mathlib.Core.List.{List}
 use Prim.Native.Nat.{ℕ}
 use Rattle.model.specs.declared.Answer.{Answer}
 use Rattle.model.specs.declared.Endianness.{Endianness}
-use Rattle.model.specs.declared.Function.{Function}
 use Rattle.model.specs.declared.KernelVersion.{KernelVersion}
 use Rattle.model.specs.declared.Refusal.{Refusal}
 use Rattle.model.specs.declared.Summary.{Summary}
-use Rattle.model.specs.Lent.{Outcome}
+use Rattle.model.specs.Lent.{Lent, Outcome}
 use Rattle.model.specs.Refusals.{noSection, noSymbol}
 use Rattle.function_table.specs.declared.Found.{Found}
 use Rattle.buncoyew.specs.declared.LoadAnswer.{LoadAnswer}
@@ -71,12 +68,14 @@ abbrev pub rowNumber : Found → ℕ
 rowNumber (Found.At i) = i
 rowNumber Found.Nothing = 18446744073709551615
 
--- of the outcome o: the answer, and the lists of the lent tables and bytes at the end
-pub record Called (o : Outcome) (a : LoadAnswer) (s p : List ℕ) (f : List Function) (m l b : List ℕ) : Type 0 where
-  pub answer : a ≡ answerOf (o .reply)
-  pub sections : s ≡ o .lent .sections
-  pub programs : p ≡ o .lent .programs
-  pub functions : f ≡ o .lent .functions
-  pub maps : m ≡ o .lent .maps
-  pub relocations : l ≡ o .lent .relocations
-  pub bytes : b ≡ o .lent .bytes
+-- what an exported call leaves behind: its answer as numbers, and what is lent
+pub record Call : Type 0 where
+  pub answer : LoadAnswer
+  pub lent : Lent
+
+abbrev pub call : LoadAnswer → Lent → Call
+call a l = record { answer = a; lent = l }
+
+-- that of a load's outcome
+abbrev pub callOf : Outcome → Call
+callOf o = record { answer = answerOf (o .reply); lent = o .lent }

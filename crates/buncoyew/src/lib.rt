@@ -1,11 +1,9 @@
 // The load call and the look-up in its function table, for programs in C and Rust to link: include/buncoyew.h.
 ghost use mathlib.Core.Path.{_≡_};
 ghost use mathlib.Core.List.{[], _∷_};
-ghost use lib.ListN.{length};
-ghost use Rattle.model.specs.Lent.{loadOf};
-ghost use Rattle.load_core.specs.Done.{lentRoom};
+ghost use Rattle.model.specs.Lent.{lent, roomIn, loadOf};
 ghost use Rattle.function_table.specs.Search.{foundIn};
-ghost use Rattle.buncoyew.specs.Called.{orderNumber, statedBit, statedVersion, acceptedAnswer, refusedAnswer, answerOf, rowNumber, Called};
+ghost use Rattle.buncoyew.specs.Called.{orderNumber, statedBit, statedVersion, acceptedAnswer, refusedAnswer, answerOf, rowNumber, call, callOf};
 use function_table::Found;
 use function_table::find;
 use load::load;
@@ -135,7 +133,13 @@ pub extern "C" fn buncoyew_load(
     bytes: &mut [u8],
     answer: &mut LoadAnswer,
 )
-    ensures { λ _. ⌜ Called (loadOf (now (d .entry)) (now (entries .entry)) (now (patches .entry)) rewrite (lentRoom (length (now (sections .entry))) (length (now (programs .entry))) (length (now (functions .entry))) (length (now (maps .entry))) (length (now (relocations .entry))) (length (now (bytes .entry))))) (now (answer .exit)) (now (sections .exit)) (now (programs .exit)) (now (functions .exit)) (now (maps .exit)) (now (relocations .exit)) (now (bytes .exit)) ⌝ }
+    ensures { λ _.
+        ⌜
+        call (now (answer .exit)) (lent (now (sections .exit)) (now (programs .exit)) (now (functions .exit)) (now (maps .exit)) (now (relocations .exit)) (now (bytes .exit)))
+        ≡ callOf
+        (loadOf (now (d .entry)) (now (entries .entry)) (now (patches .entry)) rewrite
+        (roomIn (lent (now (sections .entry)) (now (programs .entry)) (now (functions .entry)) (now (maps .entry)) (now (relocations .entry)) (now (bytes .entry)))))
+        ⌝ }
 {
     let loaded = load(
         d,

@@ -8,7 +8,8 @@ use Rattle.model.specs.declared.Answer.{Answer}
 use Rattle.model.specs.declared.Refusal.{Refusal}
 use Rattle.model.specs.Catalogue.{Catalogue}
 use Rattle.model.specs.Contents.{catalogueOf}
-use Rattle.model.specs.Lent.{Room, Lent, bytesOf, summaryOf, imageOf, fitsIn, filledTo, turnedDown, tooSmall, handed, outcome}
+use Rattle.model.specs.Lent.{Lent, bytesOf, summaryOf, imageOf, fitsIn, filledTo, turnedDown, tooSmall, handed, outcomeIn}
+use Rattle.model.specs.declared.Room.{Room}
 use Rattle.model.specs.Object.{Object, Patch}
 use Rattle.model.specs.Patching.{finish, load}
 use Rattle.model.specs.Refusals.{objectRefusal, patchRefusal, refusalOf}
@@ -23,7 +24,7 @@ module _ (room : Room) (o : Object) (ps : List Patch) where
 
   -- whether rewriting is on or off
   abbrev pub GoesBack : Refusal → Type 0
-  GoesBack q = (on : Bool) → outcome room (load o ps on) ≡ turnedDown room q
+  GoesBack q = (on : Bool) → outcomeIn room (load o ps on) ≡ turnedDown room q
 
   pub back-object : (q : Refusal) → objectRefusal o ≡ some q → GoesBack q
   unfolding load refusalOf
@@ -34,7 +35,7 @@ module _ (room : Room) (o : Object) (ps : List Patch) where
   back-patches q e f on = rw (e, f)
 
   module _ (e : objectRefusal o ≡ none) (f : patchesRefused ≡ none) where
-    accepted-is : (on : Bool) → outcome room (load o ps on) ≡ handed room (finish o ps on c) (fitsIn room (imageOf (finish o ps on c)))
+    accepted-is : (on : Bool) → outcomeIn room (load o ps on) ≡ handed room (finish o ps on c) (fitsIn room (imageOf (finish o ps on c)))
     unfolding load refusalOf
     accepted-is on = rw (e, f)
 
@@ -54,7 +55,7 @@ module _ (room : Room) (o : Object) (ps : List Patch) where
         }
 
     pub goes : fitsIn room (imageOf c) ≡ true → (on : Bool)
-        → outcome room (load o ps on) ≡ record { reply = Answer.Accepted (summaryOf c); lent = filledTo room (imageBut (bytesOf (finish o ps on c))) }
+        → outcomeIn room (load o ps on) ≡ record { reply = Answer.Accepted (summaryOf c); lent = filledTo room (imageBut (bytesOf (finish o ps on c))) }
     goes g on =
         let a = alike-finish o ps on c in
         let k = finish o ps on c in

@@ -8,17 +8,14 @@ use lib.Dec.{leb}
 use lib.ListN.{length}
 use Rattle.lists.specs.Tests.{both-true}
 use Rattle.model.specs.Catalogue.{Catalogue}
-use Rattle.model.specs.Lent.{bytesOf, imageOf, fitsIn, Room as LentRoom}
+use Rattle.model.specs.Lent.{bytesOf, imageOf, fitsIn}
+use Rattle.model.specs.declared.Room.{Room}
 use Rattle.sections.specs.declared.Counts.{Counts}
-use Rattle.decision.specs.declared.Room.{Room}
 use Rattle.image.specs.Tables.{long-sections, long-programs, long-functions, long-maps, long-relocations}
 
 image-bytes : (c : Catalogue) → imageOf c .bytes ≡ bytesOf c
 unfolding imageOf
 image-bytes c = refl
-
-abbrev pub roomOf : Room → LentRoom
-roomOf r = record { sections = r .sections; programs = r .programs; functions = r .functions; maps = r .maps; relocations = r .relocations; bytes = r .bytes }
 
 -- by how many rows there is room for
 unfoldable pub fitsBy : Room → Counts → ℕ → ℕ → Bool
@@ -53,7 +50,7 @@ by-maps n r = go (leb n (r / 27)) refl
 
 module _ (r : Room) (n : Counts) (count size : ℕ) where
   pub fits-by : (c : Catalogue) → length (c .sections) ≡ n .sections → length (c .programs) ≡ n .programs → length (c .functions) ≡ n .functions → length (c .maps) ≡ n .maps
-      → length (c .relocations) ≡ count → length (bytesOf c) ≡ size → fitsIn (roomOf r) (imageOf c) ≡ fitsBy r n count size
+      → length (c .relocations) ≡ count → length (bytesOf c) ≡ size → fitsIn r (imageOf c) ≡ fitsBy r n count size
   unfolding fitsIn fitsBy
   fits-by c e₁ e₂ e₃ e₄ e₅ e₆ =
       let q₁ : leb (length (imageOf c .sections)) (r .sections) ≡ leb (n .sections) (r .sections / 4) = rw (long-sections c, e₁) (by-fours (n .sections) (r .sections)) in
@@ -100,7 +97,7 @@ module _ (r : Room) (n : Counts) (count size : ℕ) where
   roomy-but-bytes e₁ e₂ e₃ e₄ e₅ = rw (le-leb _ _ e₁, le-leb _ _ e₂, le-leb _ _ e₃, le-leb _ _ e₄, le-leb _ _ e₅)
 
 -- what fits, table by table
-pub record Spacious (c : Catalogue) (r : LentRoom) : Type 0 where
+pub record Spacious (c : Catalogue) (r : Room) : Type 0 where
   pub sections : length (c .sections) * 4 ≤ r .sections
   pub programs : length (c .programs) * 7 ≤ r .programs
   pub functions : length (c .functions) ≤ r .functions
@@ -108,7 +105,7 @@ pub record Spacious (c : Catalogue) (r : LentRoom) : Type 0 where
   pub relocations : length (c .relocations) * 4 ≤ r .relocations
   pub bytes : length (bytesOf c) ≤ r .bytes
 
-pub spacious : (c : Catalogue) (r : LentRoom) → fitsIn r (imageOf c) ≡ true → Spacious c r
+pub spacious : (c : Catalogue) (r : Room) → fitsIn r (imageOf c) ≡ true → Spacious c r
 unfolding fitsIn
 spacious c r e =
     let (t₁, u₁) = both-true _ _ e in

@@ -14,7 +14,8 @@ use Rattle.model.specs.Instruction.{eight, rewrite}
 use Rattle.model.specs.Catalogue.{Function, Map, Catalogue}
 use Rattle.model.specs.Symbols.{liesIn}
 use Rattle.model.specs.Refusals.{bearers}
-use Rattle.model.specs.Lent.{placed, joined, nothing, sectionRow, programRow, relocationRow, sectionName, programName, functionName, functionCode, functionRow, mapName, mapOwn, mapRow, bytesOf, sectionsAt, programsAt, functionsAt, codeStart, mapsAt, ownStart, summaryOf, imageOf, Room, fitsIn}
+use Rattle.model.specs.Lent.{placed, joined, nothing, sectionRow, programRow, relocationRow, sectionName, programName, functionName, functionCode, functionRow, mapName, mapOwn, mapRow, bytesOf, sectionsAt, programsAt, functionsAt, codeStart, mapsAt, ownStart, summaryOf, imageOf, fitsIn}
+use Rattle.model.specs.declared.Room.{Room}
 use Rattle.insn.specs.Sanitized.{length-each-eight}
 use Rattle.model.specs.Patching.{patchMap, withMaps, patchMaps, patched, rewriteFunction, rewritten, finish}
 

@@ -5,8 +5,9 @@ use mathlib.Core.Bool.{Bool, true, false}
 use mathlib.Core.List.{List, [], _++_, map, append-assoc}
 use Prim.Native.Nat.{ℕ, _+_, _-_, _<_, _≤_}
 use native.Mathlib.Omega.{arith}
-use lib.ListN.{length, take, drop, length-append}
-use lib.Seq.{take-at, drop-at, drop-drop}
+use native.Mathlib.Nat.{le-refl}
+use lib.ListN.{length, take, drop, replicate, length-append, length-replicate}
+use lib.Seq.{take-at, take-length, drop-at, drop-drop}
 use Rattle.lists.specs.Part.{part-whole}
 use Rattle.object_view.specs.declared.View.{View}
 use Rattle.model.specs.Bytes.{each, part, records}
@@ -14,17 +15,16 @@ use Rattle.model.specs.PatchList.{patchesOf}
 use Rattle.model.specs.Refusals.{objectRefusal}
 use Rattle.stream.specs.Stream.{byteAt}
 use Rattle.view.specs.View.{objectIn}
-use Rattle.catalogue.specs.Numbers.{functionNumbers, mapNumbers, functions-by}
+use Rattle.catalogue.specs.Fits.{FunctionFits}
+use Rattle.catalogue.specs.Numbers.{functionAt, functionNumbers, functions-by}
+use Rattle.accepted.specs.Numbers.{functions-fit}
 use Rattle.records.specs.Readable.{Readable}
 use Rattle.records.specs.View.{gapOf}
 use Rattle.code.specs.Code.{AllFit}
+use Rattle.bytes.specs.Bounds.{all-front}
 use Rattle.bytes.specs.Parts.{catalogue}
-use Rattle.image.specs.Tables.{rows-of-maps}
-use Rattle.decision.specs.Patches.{Ready}
-use Rattle.patch_checks.specs.Checks.{mapsOf}
-use Rattle.patch.specs.Ready.{Ready as PatchReady, sited-table, rows-front}
 use Rattle.model.specs.Catalogue.{Function, Catalogue}
-use Rattle.model.specs.Lent.{placed, joined, filled, imageOf, mapRow, sectionName, programName, functionName, functionCode, mapName, mapOwn, bytesOf, sectionsAt, programsAt, functionsAt, codeStart, mapsAt, ownStart}
+use Rattle.model.specs.Lent.{filled, sectionName, programName, functionName, functionCode, mapName, mapOwn, bytesOf, sectionsAt, programsAt, functionsAt, codeStart, mapsAt, ownStart}
 use Rattle.model.specs.Object.{Object, Patch}
 use Rattle.model.specs.Patching.{patched, rewriteFunction, rewritten, finish, withMaps}
 use Rattle.insn.specs.Sanitized.{sanitized, sanitized-off}
@@ -187,22 +187,20 @@ part-back t y x from to h e = let g : from + (to - from) ≡ to = omega arith in
 -- ---- what the numbers in hand say
 
 module _ (d t : List ℕ) (v : View) (r : Readable d t v) (ok : objectRefusal (objectIn d t v) ≡ none) where
-  pub functions-encoded : (small : (k : ℕ) → byteAt d (gapOf v) k < 256) (n : ℕ) (order : List ℕ) → take n order ≡ functionNumbers d t v → AllFit d t v order n
-      → AllEncoded (catalogue d t v .functions)
-  functions-encoded small n order e fit = rw (functions-by d t v r, ← e) (all-encoded d t v small order n fit)
-
-  pub patch-ready : (entries maps order by rows : List ℕ) (n own : ℕ) → take n maps ≡ mapNumbers d t v → n ≤ length maps → own ≡ ownStart (catalogue d t v)
-      → rows ≡ filled 0 (length rows) (imageOf (catalogue d t v) .maps) → Ready d t v entries maps n order by → 0 < length entries → PatchReady d t v order by rows own
-  patch-ready entries maps order by rows n own e w f g k p =
-      let c = catalogue d t v in
-      let q : imageOf c .maps ≡ joined (placed mapName mapOwn mapRow (mapsAt c) own (mapsOf d t v maps n)) =
-      sym (rows-of-maps d t v n maps w r ok e) ∙ ap (λ (b : ℕ). joined (placed mapName mapOwn mapRow (mapsAt c) b (mapsOf d t v maps n))) (sym f)
-      in
-      record {
-        sited = sited-table d t v maps n e w by (k .sited p);
-        named = k .named p;
-        placed = rows-front d t v maps n e w (mapsAt c) own rows _ (g ∙ ap (filled 0 (length rows)) q);
-      }
+  pub functions-encoded : (small : (k : ℕ) → byteAt d (gapOf v) k < 256) → AllEncoded (catalogue d t v .functions)
+  functions-encoded small =
+      let ns = functionNumbers d t v in
+      let whole = take-length ns in
+      let fit : AllFit d t v ns (length ns) = all-front (FunctionFits d t v) (length ns) ns (le-refl (length ns)) (rw whole (functions-fit d t v ok r)) in
+      rw (functions-by d t v r, ← ap (map (functionAt d t v)) whole) (all-encoded d t v small ns (length ns) fit)
 
 pub long-done : (o : Object) (ps : List Patch) (on : Bool) (c : Catalogue) → length (bytesOf (finish o ps on c)) ≡ length (bytesOf c)
 long-done o ps on c = bytes-long c (finish o ps on c) (alike-finish o ps on c)
+
+-- ---- zeros behind
+
+pub behind-filled : (x t : List ℕ) (n : ℕ) → n ≡ length x → t ≡ filled 0 (length t) x → (t ≡ x ++ drop n t) × (drop n t ≡ replicate (length t - n) 0) × (n ≤ length t)
+behind-filled x t n e f =
+    let zeros : drop n t ≡ replicate (length t - n) 0 = ap (drop n) f ∙ drop-at x (replicate (length t - length x) 0) n (sym e) ∙ rw (← e) in
+    let long : length t ≡ length x + (length t - length x) = ap length f ∙ rw (length-append, length-replicate) in
+    (f ∙ rw (← e) (ap (λ (l : List ℕ). x ++ l) (sym zeros)), zeros, omega (arith, long, e))

@@ -3,7 +3,7 @@ ghost use mathlib.Core.Path.{_≡_};
 ghost use Prim.Native.Nat.{_-_, _*_, _≤_};
 ghost use lib.ListN.{length, drop, replicate};
 ghost use Rattle.model.specs.Lent.{loadOf, zeroRow};
-ghost use Rattle.load_core.specs.Done.{lentRoom};
+ghost use Rattle.load_object.specs.Done.{lentRoom};
 ghost use Rattle.flat.specs.Loads.{rowsIn, FlatLoads};
 use flat_rows::store_rows;
 use lists::zero64;
@@ -29,7 +29,13 @@ fn load_rows(
     bytes: &mut [u8],
 ) -> Answer
     requires { ⌜ (room ≤ 2048) × (room * 7 ≤ length (now functions)) ⌝ }
-    ensures { λ r. ⌜ FlatLoads (loadOf (now (d .entry)) (now (entries .entry)) (now (patches .entry)) rewrite (lentRoom (length (now (sections .entry))) (length (now (programs .entry))) room (length (now (maps .entry))) (length (now (relocations .entry))) (length (now (bytes .entry))))) (drop (room * 7) (now (functions .entry))) r (now (sections .exit)) (now (programs .exit)) (now (functions .exit)) (now (maps .exit)) (now (relocations .exit)) (now (bytes .exit)) ⌝ }
+    ensures { λ r.
+        ⌜
+        FlatLoads
+        (loadOf (now (d .entry)) (now (entries .entry)) (now (patches .entry)) rewrite
+        (lentRoom (length (now (sections .entry))) (length (now (programs .entry))) room (length (now (maps .entry))) (length (now (relocations .entry))) (length (now (bytes .entry)))))
+        (drop (room * 7) (now (functions .entry))) r (now (sections .exit)) (now (programs .exit)) (now (functions .exit)) (now (maps .exit)) (now (relocations .exit)) (now (bytes .exit))
+        ⌝ }
 {
     let mut table = [row; 2048];
     let answer = load(
@@ -78,7 +84,15 @@ pub fn load_flat(
     relocations: &mut [u64],
     bytes: &mut [u8],
 ) -> Answer
-    ensures { λ r. ⌜ FlatLoads (loadOf (now (d .entry)) (now (entries .entry)) (now (patches .entry)) rewrite (lentRoom (length (now (sections .entry))) (length (now (programs .entry))) (rowsIn (length (now (functions .entry)))) (length (now (maps .entry))) (length (now (relocations .entry))) (length (now (bytes .entry))))) (replicate (length (now (functions .entry)) - rowsIn (length (now (functions .entry))) * 7) 0) r (now (sections .exit)) (now (programs .exit)) (now (functions .exit)) (now (maps .exit)) (now (relocations .exit)) (now (bytes .exit)) ⌝ }
+    ensures { λ r.
+        ⌜
+        FlatLoads
+        (loadOf (now (d .entry)) (now (entries .entry)) (now (patches .entry)) rewrite
+        (lentRoom (length (now (sections .entry))) (length (now (programs .entry))) (rowsIn (length (now (functions .entry)))) (length (now (maps .entry))) (length (now (relocations .entry)))
+        (length (now (bytes .entry)))))
+        (replicate (length (now (functions .entry)) - rowsIn (length (now (functions .entry))) * 7) 0) r (now (sections .exit)) (now (programs .exit)) (now (functions .exit)) (now (maps .exit))
+        (now (relocations .exit)) (now (bytes .exit))
+        ⌝ }
 {
     let room = rows_in(functions.len());
     zero64(functions);

@@ -18,7 +18,8 @@ use Rattle.model.specs.Refusals.{bearers, patchRefusal}
 use Rattle.model.specs.Patching.{accepted, finish}
 use Rattle.model.specs.Deposit.{objectOf, loadDeposit}
 use Rattle.model.specs.PatchList.{patchesOf}
-use Rattle.model.specs.Lent.{Room, loadOf}
+use Rattle.model.specs.Lent.{loadOf}
+use Rattle.model.specs.declared.Room.{Room}
 use Rattle.model.specs.ReadBack.{readBack}
 use Rattle.model.specs.Bytes.{AllBytes}
 use Rattle.guarantees.specs.WordsOfDemand3.{Fair, FirstHalf, given, lastGiven, byteAfter, mapAfter, NamedWith, instructionAfter, after}

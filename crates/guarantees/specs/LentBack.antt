@@ -24,7 +24,8 @@ use Rattle.model.specs.Contents.{functionAt, programFunction, textFunction, fun
 use Rattle.model.specs.Patching.{Verdict, refused, accepted}
 use Rattle.model.specs.Deposit.{objectOf, loadDeposit}
 use Rattle.model.specs.PatchList.{patchesOf}
-use Rattle.model.specs.Lent.{summaryOf, Lent, imageOf, Room, fitsIn, filled, zeroRow, filledTo, zeroed, handed, outcome, loadOf}
+use Rattle.model.specs.Lent.{summaryOf, Lent, imageOf, fitsIn, filled, zeroRow, filledTo, zeroed, handed, outcomeIn, loadOf}
+use Rattle.model.specs.declared.Room.{Room}
 use Rattle.model.specs.ReadBack.{readBack}
 use Rattle.guarantees.specs.OptionsAndLists.{map-∈, each-∈, both-true}
 use Rattle.guarantees.specs.TableLaws.{keep-∈, table-∈}
@@ -201,10 +202,10 @@ given-is d entries bytes on room h q = go (loadDeposit d (patchesOf entries byte
     fit : (c : Catalogue) (b : Bool) → loadDeposit d (patchesOf entries bytes) on ≡ accepted c → fitsIn room (imageOf c) ≡ b → handed room c b .reply ≡ Answer.Accepted h → Given d entries bytes on room h
     fit c true e f q =
         let s : h ≡ summaryOf c = cc in
-        record { catalogue = c; answer = e; fits = f; summary = s; lent = ap (λ x. outcome room x .lent) e ∙ ap (λ b. handed room c b .lent) f }
+        record { catalogue = c; answer = e; fits = f; summary = s; lent = ap (λ x. outcomeIn room x .lent) e ∙ ap (λ b. handed room c b .lent) f }
     fit c false e f q = let z : _≡_ {A = ℕ} 0 1 = cc in let no : ⊥ = omega arith in absurd no
 
-    go : (a : Verdict) → loadDeposit d (patchesOf entries bytes) on ≡ a → outcome room a .reply ≡ Answer.Accepted h → Given d entries bytes on room h
+    go : (a : Verdict) → loadDeposit d (patchesOf entries bytes) on ≡ a → outcomeIn room a .reply ≡ Answer.Accepted h → Given d entries bytes on room h
     go (refused r) e q = let z : _≡_ {A = ℕ} 0 1 = cc in let no : ⊥ = omega arith in absurd no
     go (accepted c) e q = fit c (fitsIn room (imageOf c)) e refl q
 
@@ -283,6 +284,6 @@ lent-lengths d entries bytes on room = go (loadDeposit d (patchesOf entries byte
     fit c true f = filled-lengths room (imageOf c) f
     fit c false f = zeroed-lengths room
 
-    go : (a : Verdict) → Lengths room (outcome room a .lent)
+    go : (a : Verdict) → Lengths room (outcomeIn room a .lent)
     go (refused r) = zeroed-lengths room
     go (accepted c) = fit c (fitsIn room (imageOf c)) refl

@@ -14,7 +14,8 @@ use Rattle.model.specs.Deposit.{weigh, checkOk, checksOk, frameOk, streamIn, st
 use Rattle.model.specs.PatchList.{patchFrom, patchesOf}
 use Rattle.model.specs.ProgramNumbers.{variantOf}
 use Rattle.model.specs.Instruction.{eight, unsigned}
-use Rattle.model.specs.Lent.{placed, sectionRow, programRow, functionRow, mapRow, relocationRow, bytesOf, sectionsAt, programsAt, functionsAt, codeStart, mapsAt, ownStart, summaryOf, imageOf, Room, fitsIn, filledTo, zeroed, turnedDown, tooSmall, Outcome, loadOf}
+use Rattle.model.specs.Lent.{placed, sectionRow, programRow, functionRow, mapRow, relocationRow, bytesOf, sectionsAt, programsAt, functionsAt, codeStart, mapsAt, ownStart, summaryOf, imageOf, fitsIn, filledTo, zeroed, turnedDown, tooSmall, Outcome, loadOf}
+use Rattle.model.specs.declared.Room.{Room}
 use Rattle.model.specs.ReadBack.{readBack}
 use Rattle.guarantees.specs.WordsOfDemand3.{FirstHalf, after}
 use Rattle.guarantees.specs.Demand3.{demand-3-first, second-lent}

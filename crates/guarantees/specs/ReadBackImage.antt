@@ -75,7 +75,8 @@ use Rattle.model.specs.SectionKind.{kindNumber}
 use Rattle.model.specs.Instruction.{signed, unsigned, instructionOf, eight, instructions}
 use Rattle.model.specs.Catalogue.{SectionEntry, Program, Function, Map, Relocation, Catalogue}
 use Rattle.model.specs.ProgramNumbers.{variantOf}
-use Rattle.model.specs.Lent.{symbolNumber, nothing, sectionName, programName, functionName, functionCode, mapName, mapOwn, placed, sectionRow, programRow, functionRow, mapRow, relocationRow, bytesOf, sectionsAt, programsAt, functionsAt, codeStart, mapsAt, ownStart, summaryOf, Lent, joined, imageOf, Room, zeroRow, filledTo}
+use Rattle.model.specs.Lent.{symbolNumber, nothing, sectionName, programName, functionName, functionCode, mapName, mapOwn, placed, sectionRow, programRow, functionRow, mapRow, relocationRow, bytesOf, sectionsAt, programsAt, functionsAt, codeStart, mapsAt, ownStart, summaryOf, Lent, joined, imageOf, zeroRow, filledTo}
+use Rattle.model.specs.declared.Room.{Room}
 use Rattle.model.specs.ReadBack.{programFrom, kindFrom, symbolFrom, sectionFrom, programRead, functionRead, mapRead, relocationRead, readBack}
 
 -- ---- a piece stands at a place of the bytes

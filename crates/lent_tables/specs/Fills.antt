@@ -1,44 +1,24 @@
 -- What a load leaves in the lent tables and bytes, but for the function table.
 use mathlib.Core.Path.{_≡_, refl, sym, ap, _∙_}
-use mathlib.Core.Bool.{Bool}
 use mathlib.Core.List.{List, _++_}
 use mathlib.Core.Option.{none}
 use Prim.Native.Nat.{ℕ, _*_, _^_, _<_, _≤_}
-use lib.ListN.{length, take, drop, replicate}
+use lib.ListN.{length, drop}
 use Rattle.object_view.specs.declared.View.{View}
 use Rattle.model.specs.declared.Summary.{Summary}
 use Rattle.model.specs.Catalogue.{Catalogue}
 use Rattle.model.specs.Contents.{catalogueOf, versionOf}
 use Rattle.model.specs.Lent.{filled, bytesOf, sectionsAt, imageOf, summaryOf}
-use Rattle.model.specs.Object.{Object, Patch}
-use Rattle.model.specs.Patching.{finish}
-use Rattle.model.specs.PatchList.{patchesOf}
-use Rattle.model.specs.Refusals.{objectRefusal, patchRefusal}
+use Rattle.model.specs.Refusals.{objectRefusal}
 use Rattle.view.specs.View.{objectIn}
-use Rattle.decision.specs.Patches.{Ready}
 use Rattle.bytes.specs.Held.{Held, At}
 use Rattle.bytes.specs.Parts.{catalogue}
 use Rattle.decision.specs.declared.Plan.{Plan}
-use Rattle.decision.specs.Decided.{Goes}
-use Rattle.decision.specs.declared.Room.{Room}
+use Rattle.decision.specs.Decided.{Planned}
+use Rattle.model.specs.declared.Room.{Room}
 use Rattle.image.specs.Filled.{clearedFrom, filled-is}
 use Rattle.image.specs.Tables.{long-relocations, count-sections, count-programs, count-functions, count-maps}
 use Rattle.records.specs.Readable.{Readable}
-
--- the exit lists, by the entry lists
-pub record Cleared (s p m l b s₂ p₂ m₂ l₂ b₂ : List ℕ) : Type 0 where
-  pub sections : s₂ ≡ replicate (length s) 0
-  pub programs : p₂ ≡ replicate (length p) 0
-  pub maps : m₂ ≡ replicate (length m) 0
-  pub relocations : l₂ ≡ replicate (length l) 0
-  pub bytes : b₂ ≡ replicate (length b) 0
-
-pub record Filled (o : Object) (ps : List Patch) (on : Bool) (s p m l b s₂ p₂ m₂ l₂ b₂ : List ℕ) : Type 0 where
-  pub sections : s₂ ≡ filled 0 (length s) (imageOf (catalogueOf o) .sections)
-  pub programs : p₂ ≡ filled 0 (length p) (imageOf (catalogueOf o) .programs)
-  pub maps : m₂ ≡ filled 0 (length m) (imageOf (catalogueOf o) .maps)
-  pub relocations : l₂ ≡ filled 0 (length l) (imageOf (catalogueOf o) .relocations)
-  pub bytes : b₂ ≡ filled 0 (length b) (bytesOf (finish o ps on (catalogueOf o)))
 
 -- the relocations' rows are there, and what stands behind them is cleared
 pub relocations-filled : (c : Catalogue) (t l : List ℕ) (n : ℕ) → n ≡ length (c .relocations) → n * 4 ≤ length t → l ≡ imageOf c .relocations ++ drop (n * 4) t
@@ -47,15 +27,12 @@ relocations-filled c t l n e h f =
     ap (λ (x : List ℕ). clearedFrom x (n * 4)) f ∙ filled-is (imageOf c .relocations) t (n * 4) (long-relocations c ∙ ap (λ (k : ℕ). k * 4) (sym e)) h
 
 -- what filling needs: nothing refuses the object, all of it fits, and its relocations' rows are stored
-pub record Fillable (d t : List ℕ) (v : View) (entries lent : List ℕ) (plan : Plan) (s p f m symbols by sections programs maps relocations bytes : List ℕ) : Type 0 where
+pub record Fillable (d t : List ℕ) (v : View) (plan : Plan) (s p f m sections programs maps relocations bytes : List ℕ) : Type 0 where
   pub readable : Readable d t v
   pub ok : objectRefusal (objectIn d t v) ≡ none
-  pub fine : patchRefusal (objectIn d t v) (catalogue d t v .maps) 1 (patchesOf entries lent) ≡ none
   pub held : Held d t v (plan .counts) s p f m
   pub at : At (catalogue d t v) (plan .places)
   pub count : plan .relocations ≡ length (catalogue d t v .relocations)
-  pub ready : Ready d t v entries m (plan .counts .maps) (take (v .symbols) symbols) by
-  pub known : v .symbols ≤ length symbols
   pub room-sections : plan .counts .sections * 4 ≤ length sections
   pub room-programs : plan .counts .programs * 7 ≤ length programs
   pub room-maps : plan .counts .maps * 27 ≤ length maps
@@ -79,7 +56,7 @@ summaryBy d t v plan =
       bytes = plan .places .end;
     }
 
-module _ (d t : List ℕ) (v : View) (entries lent : List ℕ) (room : Room) (plan : Plan) (s p f m order by : List ℕ) (r : Readable d t v) (g : Goes d t v entries lent room plan s p f m order by) where
+module _ (d t : List ℕ) (v : View) (room : Room) (plan : Plan) (s p f m : List ℕ) (r : Readable d t v) (g : Planned d t v room plan s p f m) where
   order-is : catalogue d t v .order ≡ v .order
   unfolding catalogueOf objectIn
   order-is = refl

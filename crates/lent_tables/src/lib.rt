@@ -1,15 +1,15 @@
 // Everything that is lent but the function table: cleared where the object is refused, filled where it is accepted; and the summary.
 ghost use mathlib.Core.Path.{_≡_};
 ghost use mathlib.Core.Option.{none};
-ghost use Prim.Native.Nat.{_≤_};
-ghost use Rattle.model.specs.PatchList.{patchesOf};
-ghost use Rattle.view.specs.View.{objectIn};
+ghost use lib.ListN.{length, replicate};
+ghost use Rattle.model.specs.Lent.{bytesOf, imageOf, filled};
+ghost use Rattle.bytes.specs.Parts.{catalogue};
 ghost use Rattle.first_checks.specs.LicenceVersion.{versionRefused};
-ghost use Rattle.lent_tables.specs.Fills.{Cleared, Filled, Fillable, summaryBy};
+ghost use Rattle.lent_tables.specs.Fills.{Fillable, summaryBy};
 use decision::Plan;
-use finished_bytes::fill_bytes;
 use first_checks::version_of;
 use image::clear_from;
+use image::fill_bytes;
 use image::fill_maps;
 use image::fill_programs;
 use image::fill_sections;
@@ -17,7 +17,6 @@ use lists::zero8;
 use lists::zero64;
 use model::Summary;
 use object_view::View;
-use stream::size;
 
 pub fn clear(
     sections: &mut [u64],
@@ -26,7 +25,14 @@ pub fn clear(
     relocations: &mut [u64],
     bytes: &mut [u8],
 )
-    ensures { λ r. ⌜ Cleared (now (sections .entry)) (now (programs .entry)) (now (maps .entry)) (now (relocations .entry)) (now (bytes .entry)) (now (sections .exit)) (now (programs .exit)) (now (maps .exit)) (now (relocations .exit)) (now (bytes .exit)) ⌝ }
+    ensures { λ r.
+        ⌜
+        (now (sections .exit) ≡ replicate (length (now (sections .entry))) 0)
+        × (now (programs .exit) ≡ replicate (length (now (programs .entry))) 0)
+        × (now (maps .exit) ≡ replicate (length (now (maps .entry))) 0)
+        × (now (relocations .exit) ≡ replicate (length (now (relocations .entry))) 0)
+        × (now (bytes .exit) ≡ replicate (length (now (bytes .entry))) 0)
+        ⌝ }
 {
     zero64(sections);
     zero64(programs);
@@ -40,50 +46,36 @@ pub fn fill(
     d: &[u8],
     t: &[u32],
     v: View,
-    entries: &[u64],
-    patches: &[u8],
-    rewrite: bool,
     plan: Plan,
     s: &[u32],
     p: &[u32],
     f: &[u32],
     m: &[u32],
-    symbols: &[u32],
-    by: &[u32],
     sections: &mut [u64],
     programs: &mut [u64],
     maps: &mut [u64],
     relocations: &mut [u64],
     bytes: &mut [u8],
 )
-    requires { ⌜ Fillable (now d) (now t) v (now entries) (now patches) plan (now s) (now p) (now f) (now m) (now symbols) (now by) (now sections) (now programs) (now maps) (now relocations) (now bytes) ⌝ }
-    ensures { λ r. ⌜ Filled (objectIn (now (d .entry)) (now (t .entry)) v) (patchesOf (now (entries .entry)) (now (patches .entry))) rewrite (now (sections .entry)) (now (programs .entry)) (now (maps .entry)) (now (relocations .entry)) (now (bytes .entry)) (now (sections .exit)) (now (programs .exit)) (now (maps .exit)) (now (relocations .exit)) (now (bytes .exit)) ⌝ }
+    requires { ⌜
+        Fillable (now d) (now t) v plan (now s) (now p) (now f) (now m) (now sections) (now programs) (now maps) (now relocations) (now bytes)
+        ⌝ }
+    ensures { λ r.
+        ⌜
+        (now (sections .exit) ≡ filled 0 (length (now (sections .entry))) (imageOf (catalogue (now (d .entry)) (now (t .entry)) v) .sections))
+        × (now (programs .exit) ≡ filled 0 (length (now (programs .entry))) (imageOf (catalogue (now (d .entry)) (now (t .entry)) v) .programs))
+        × (now (maps .exit) ≡ filled 0 (length (now (maps .entry))) (imageOf (catalogue (now (d .entry)) (now (t .entry)) v) .maps))
+        × (now (relocations .exit) ≡ filled 0 (length (now (relocations .entry))) (imageOf (catalogue (now (d .entry)) (now (t .entry)) v) .relocations))
+        × (now (bytes .exit) ≡ filled 0 (length (now (bytes .entry))) (bytesOf (catalogue (now (d .entry)) (now (t .entry)) v)))
+        ⌝ }
 {
     let n = plan.counts;
     let places = plan.places;
-    let y = size(v.symbols);
     fill_sections(d, t, v, s, n.sections, places, sections);
     fill_programs(d, t, v, p, n.programs, places, programs);
     fill_maps(d, t, v, m, n.maps, places, maps);
     clear_from(relocations, plan.relocations * 4);
-    fill_bytes(
-        d,
-        t,
-        v,
-        entries,
-        patches,
-        rewrite,
-        n,
-        places,
-        s,
-        p,
-        f,
-        m,
-        &symbols[0..y],
-        by,
-        maps,
-        bytes,
-    );
+    fill_bytes(d, t, v, n, places, s, p, f, m, bytes);
 }
 
 fn wide(x: usize) -> u64

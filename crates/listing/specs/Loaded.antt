@@ -13,7 +13,8 @@ use Rattle.model.specs.declared.Summary.{Summary}
 use Rattle.model.specs.declared.Answer.{Answer}
 use Rattle.model.specs.Bytes.{each, records}
 use Rattle.model.specs.Catalogue.{Program, Function, Map}
-use Rattle.model.specs.Lent.{Room, loadOf, fitsIn, imageOf, summaryOf, placed, programName, functionName, functionCode, mapName, mapOwn, nothing, programRow, functionRow, mapRow, programsAt, functionsAt, codeStart, mapsAt, ownStart}
+use Rattle.model.specs.Lent.{loadOf, fitsIn, imageOf, summaryOf, placed, programName, functionName, functionCode, mapName, mapOwn, nothing, programRow, functionRow, mapRow, programsAt, functionsAt, codeStart, mapsAt, ownStart}
+use Rattle.model.specs.declared.Room.{Room}
 use Rattle.model.specs.Listing.{catalogueText}
 use Rattle.model.specs.ReadBack.{functionRead, readBack}
 use Rattle.lists.specs.Tests.{both-true}

@@ -4,7 +4,8 @@ use mathlib.Core.List.{List, _++_}
 use Prim.Native.Nat.{ℕ}
 use lib.ListN.{length}
 use Rattle.model.specs.declared.Answer.{Answer}
-use Rattle.model.specs.Lent.{Lent, Room, Outcome}
+use Rattle.model.specs.Lent.{Lent, Outcome}
+use Rattle.model.specs.declared.Room.{Room}
 use Rattle.flat.specs.Loads.{rowsIn, FlatLoads}
 use Rattle.flat_rows.specs.Flat.{flatRows}
 

@@ -10,7 +10,8 @@ use Rattle.model.specs.declared.Summary.{Summary}
 use Rattle.model.specs.declared.Answer.{Answer}
 use Rattle.model.specs.Bytes.{AllBytes}
 use Rattle.model.specs.Catalogue.{Catalogue}
-use Rattle.model.specs.Lent.{Lent, Room, loadOf, summaryOf, bytesOf}
+use Rattle.model.specs.Lent.{Lent, loadOf, summaryOf, bytesOf}
+use Rattle.model.specs.declared.Room.{Room}
 use Rattle.model.specs.Listing.{answerText, catalogueText, refusalText, tooLong, textOf, listingOf}
 use Rattle.model.specs.ReadBack.{readBack}
 use Rattle.guarantees.specs.LentBack.{given-is, lent-read-back}

@@ -40,7 +40,17 @@ fn list(
     out: &mut [u8],
 ) -> usize
     requires { ⌜ length (now bytes) + 10 * length (now programs) + 11 * length (now functions) + 3 * length (now maps) + 71 ≤ length (now out) ⌝ }
-    ensures { λ r. ⌜ Counts r (now (out .exit)) × Laid 0 (listingOf (roomOf (now (sections .entry)) (now (programs .entry)) (now (functions .entry)) (now (maps .entry)) (now (relocations .entry)) (now (bytes .entry))) (now (d .entry))) (now (out .entry)) r (now (out .exit)) × (take r (now (out .exit)) ≡ listingOf (roomOf (now (sections .entry)) (now (programs .entry)) (now (functions .entry)) (now (maps .entry)) (now (relocations .entry)) (now (bytes .entry))) (now (d .entry))) ⌝ }
+    ensures { λ r.
+        ⌜
+        Counts r (now (out .exit))
+        × Laid 0
+        (listingOf (roomOf (now (sections .entry)) (now (programs .entry)) (now (functions .entry)) (now (maps .entry)) (now (relocations .entry)) (now (bytes .entry))) (now (d .entry)))
+        (now (out .entry)) r (now (out .exit))
+        × (take r (now (out .exit))
+        ≡ listingOf
+        (roomOf (now (sections .entry)) (now (programs .entry)) (now (functions .entry)) (now (maps .entry)) (now (relocations .entry)) (now (bytes .entry)))
+        (now (d .entry)))
+        ⌝ }
 {
     if 65536 < d.len() {
         return put_refusal(out, 0, too_long());

@@ -35,7 +35,7 @@ use denote.Exit.{yes}
 use Rattle.model.specs.declared.Answer.{Answer}
 use Rattle.model.specs.declared.Function.{Function}
 use Rattle.object_view.specs.declared.Opened.{Opened}
-use Rattle.load_core.specs.Done.{Open, symbolsOf}
+use Rattle.load_object.specs.Done.{Open, symbolsOf}
 use Rattle.load.proofs.Outer as outer
 use Rattle.load.proofs.Outer.{AtMost}
 use Rattle.model.proofs.Function as T

@@ -28,9 +28,9 @@ use denote.Triple.Walked.{says, needs, Stays, gave-slice, stay-dropped, walkOf, 
 use denote.Exit.{yes}
 use Rattle.model.specs.declared.Answer.{Answer}
 use Rattle.model.specs.declared.Function.{Function}
-use Rattle.model.specs.Lent.{outcome}
+use Rattle.model.specs.Lent.{outcomeIn}
 use Rattle.object_view.specs.declared.Opened.{Opened}
-use Rattle.load_core.specs.Done.{lentRoom, Open, symbolsOf, verdictIn}
+use Rattle.load_object.specs.Done.{lentRoom, Open, symbolsOf, verdictIn}
 use Rattle.load.specs.Loads.{Loads}
 use Rattle.model.proofs.Function as T
 use Rattle.model.proofs.Answer as F
@@ -48,7 +48,7 @@ stayed = (stay-dropped (shrSliceOf (0 ∷ []) tt (plain (λ _. u8))) yes, (stay-
 
 module _ {M : Type 1} (𝓤 : URA M) (H : Heap 𝓤) (A : Atoms 𝓤) (W : Given 𝓤 H A) (Asks : List ℕ → List ℕ → Opened → Type 0) where
   abbrev pub clausesOf : Clauses 𝓤 load′.ended
-  clausesOf κs a = record { ghost = Unit {0}; requires = λ _. fact 𝓤 (Asks (a .0 .now) (a .1 .0 .now) (a .1 .1 .0)); ensures = λ _ r end. fact 𝓤 (Loads (outcome (lentRoom (length (a .1 .1 .1 .1 .1 .1 .0 .now)) (length (a .1 .1 .1 .1 .1 .1 .1 .0 .now)) (length (a .1 .1 .1 .1 .1 .1 .1 .1 .0 .now)) (length (a .1 .1 .1 .1 .1 .1 .1 .1 .1 .0 .now)) (length (a .1 .1 .1 .1 .1 .1 .1 .1 .1 .1 .0 .now)) (length (a .1 .1 .1 .1 .1 .1 .1 .1 .1 .1 .1 .0 .now))) (verdictIn (a .0 .now) (a .1 .0 .now) (a .1 .1 .0) (a .1 .1 .1 .0 .now) (a .1 .1 .1 .1 .0 .now) (a .1 .1 .1 .1 .1 .0))) r (end .1 .1 .1 .1 .1 .1 .0 .now) (end .1 .1 .1 .1 .1 .1 .1 .0 .now) (end .1 .1 .1 .1 .1 .1 .1 .1 .0 .now) (end .1 .1 .1 .1 .1 .1 .1 .1 .1 .0 .now) (end .1 .1 .1 .1 .1 .1 .1 .1 .1 .1 .0 .now) (end .1 .1 .1 .1 .1 .1 .1 .1 .1 .1 .1 .0 .now)) }
+  clausesOf κs a = record { ghost = Unit {0}; requires = λ _. fact 𝓤 (Asks (a .0 .now) (a .1 .0 .now) (a .1 .1 .0)); ensures = λ _ r end. fact 𝓤 (Loads (outcomeIn (lentRoom (length (a .1 .1 .1 .1 .1 .1 .0 .now)) (length (a .1 .1 .1 .1 .1 .1 .1 .0 .now)) (length (a .1 .1 .1 .1 .1 .1 .1 .1 .0 .now)) (length (a .1 .1 .1 .1 .1 .1 .1 .1 .1 .0 .now)) (length (a .1 .1 .1 .1 .1 .1 .1 .1 .1 .1 .0 .now)) (length (a .1 .1 .1 .1 .1 .1 .1 .1 .1 .1 .1 .0 .now))) (verdictIn (a .0 .now) (a .1 .0 .now) (a .1 .1 .0) (a .1 .1 .1 .0 .now) (a .1 .1 .1 .1 .0 .now) (a .1 .1 .1 .1 .1 .0))) r (end .1 .1 .1 .1 .1 .1 .0 .now) (end .1 .1 .1 .1 .1 .1 .1 .0 .now) (end .1 .1 .1 .1 .1 .1 .1 .1 .0 .now) (end .1 .1 .1 .1 .1 .1 .1 .1 .1 .0 .now) (end .1 .1 .1 .1 .1 .1 .1 .1 .1 .1 .0 .now) (end .1 .1 .1 .1 .1 .1 .1 .1 .1 .1 .1 .0 .now)) }
 
   module _ (κ₁ κ₂ κ₄ κ₅ κ₇ κ₈ κ₉ κ₁₀ κ₁₁ κ₁₂ : Lft) (q₁ q₂ q₄ q₅ q₇ q₈ q₉ q₁₀ q₁₁ q₁₂ : Share) (x₁ : RefT (List ℕ)) (x₂ : RefT (List ℕ)) (opened : Opened) (v₃ : Val) (x₄ : RefT (List ℕ)) (x₅ : RefT (List ℕ)) (on : Bool) (x₇ : RefT (List ℕ)) (x₈ : RefT (List ℕ)) (x₉ : RefT (List Function)) (x₁₀ : RefT (List ℕ)) (x₁₁ : RefT (List ℕ)) (x₁₂ : RefT (List ℕ)) where
     abbrev pub Toks : Item 𝓤
@@ -65,7 +65,7 @@ module _ {M : Type 1} (𝓤 : URA M) (H : Heap 𝓤) (A : Atoms 𝓤) (W : Given
 
     -- what is said of the answer and of the six last lists
     abbrev pub Facts : Answer → List ℕ → List ℕ → List Function → List ℕ → List ℕ → List ℕ → Type 0
-    Facts r z₇ z₈ z₉ z₁₀ z₁₁ z₁₂ = Loads (outcome (lentRoom (length (x₇ .now)) (length (x₈ .now)) (length (x₉ .now)) (length (x₁₀ .now)) (length (x₁₁ .now)) (length (x₁₂ .now))) (verdictIn (x₁ .now) (x₂ .now) opened (x₄ .now) (x₅ .now) on)) r z₇ z₈ z₉ z₁₀ z₁₁ z₁₂
+    Facts r z₇ z₈ z₉ z₁₀ z₁₁ z₁₂ = Loads (outcomeIn (lentRoom (length (x₇ .now)) (length (x₈ .now)) (length (x₉ .now)) (length (x₁₀ .now)) (length (x₁₁ .now)) (length (x₁₂ .now))) (verdictIn (x₁ .now) (x₂ .now) opened (x₄ .now) (x₅ .now) on)) r z₇ z₈ z₉ z₁₀ z₁₁ z₁₂
 
     pub exits : (r : Answer) (w : Val) (z₇ : List ℕ) (z₈ : List ℕ) (z₉ : List Function) (z₁₀ : List ℕ) (z₁₁ : List ℕ) (z₁₂ : List ℕ) → Facts r z₇ z₈ z₉ z₁₀ z₁₁ z₁₂ → length z₇ ≡ length (x₇ .now) → length z₈ ≡ length (x₈ .now) → length z₉ ≡ length (x₉ .now) → length z₁₀ ≡ length (x₁₀ .now) → length z₁₁ ≡ length (x₁₁ .now) → length z₁₂ ≡ length (x₁₂ .now)
         → ent 𝓤 (⋆ 𝓤 H A (Toks ∷ ‵ (finally u64 (x₇ .name) z₇) ∷ ‵ (finally u64 (x₈ .name) z₈) ∷ ‵ (finally T.the-row (x₉ .name) z₉) ∷ ‵ (finally u64 (x₁₀ .name) z₁₀) ∷ ‵ (finally u64 (x₁₁ .name) z₁₁) ∷ ‵ (finally u8 (x₁₂ .name) z₁₂) ∷ ‵ (F.the-row .own r (w ∷ [])) ∷ [])) (Post w)

@@ -39,12 +39,12 @@ use denote.Triple.Spec.{Meets, tripleOf}
 use denote.Triple.Walked.{says}
 use Rattle.model.specs.declared.Answer.{Answer}
 use Rattle.model.specs.declared.Function.{Function}
-use Rattle.model.specs.Lent.{Outcome, outcome}
+use Rattle.model.specs.Lent.{lent, Outcome, outcome, outcomeIn}
 use Rattle.object_view.specs.declared.Opened.{Opened}
 use Rattle.function_table.specs.declared.Rows.{Rows}
 use Rattle.function_table.specs.Rows.{ReadableRows, rowsMade}
-use Rattle.load_core.specs.declared.Loaded.{Loaded}
-use Rattle.load_core.specs.Done.{lentRoom, Open, symbolsOf, verdictIn, CoreDone}
+use Rattle.load_object.specs.declared.Loaded.{Loaded}
+use Rattle.load_object.specs.Done.{lentRoom, Open, symbolsOf, verdictIn, CoreDone}
 use Rattle.load.specs.Loads.{Loads}
 use Rattle.load.proofs.Again.{LentAgain, lends-again, comes-back}
 use Rattle.load.proofs.Shared.{shares-all}
@@ -59,8 +59,8 @@ use Rattle.object_view.proofs.Opened as O
 use Rattle.object_view.proofs.Opened.Laws as O′
 use Rattle.function_table.proofs.Rows as R
 use Rattle.function_table.proofs.Rows.Laws as R′
-use Rattle.load_core.proofs.Loaded as L
-use Rattle.load_core.proofs.Loaded.Laws as L′
+use Rattle.load_object.proofs.Loaded as L
+use Rattle.load_object.proofs.Loaded.Laws as L′
 use Rattle.load_core.proofs.load_core as core
 use Rattle.load_core.proofs.load_core.Symbol.{name as #load-core}
 use Rattle.function_table.proofs.fill as fill
@@ -162,7 +162,7 @@ module _ {M : Type 1} (𝓤 : URA M) (H : Heap 𝓤) (A : Atoms 𝓤) (W : Given
   n = length (x₉ .now)
 
   abbrev result : Outcome
-  result = outcome (lentRoom (length (x₇ .now)) (length (x₈ .now)) (length (x₉ .now)) (length (x₁₀ .now)) (length (x₁₁ .now)) (length (x₁₂ .now))) (verdictIn (x₁ .now) (x₂ .now) opened (x₄ .now) (x₅ .now) on)
+  result = outcomeIn (lentRoom (length (x₇ .now)) (length (x₈ .now)) (length (x₉ .now)) (length (x₁₀ .now)) (length (x₁₁ .now)) (length (x₁₂ .now))) (verdictIn (x₁ .now) (x₂ .now) opened (x₄ .now) (x₅ .now) on)
 
   abbrev zs₀ : List ℕ
   zs₀ = zeros N
@@ -284,7 +284,7 @@ module _ {M : Type 1} (𝓤 : URA M) (H : Heap 𝓤) (A : Atoms 𝓤) (W : Given
         -- what `fill` asks
         nothing ! $ owned ! R.the-row (Is R.the-row) (LL.makes R.the-type R′.the-plain 𝓤 H A) (r .rows) _ isv $ fjoin ! $ move ! (1 ∷ 0 ∷ []) $ fjoin ! $ move ! (16 ∷ 0 ∷ []) $ fjoin ! $
         move ! (15 ∷ 0 ∷ []) $ fjoin ! $ move ! (15 ∷ 0 ∷ []) $ fjoin ! $ move ! (2 ∷ 14 ∷ []) $ join ! $ move ! (5 ∷ 0 ∷ []) $ join ! $ move ! (4 ∷ 0 ∷ []) $ join ! $ move ! (8 ∷ 0 ∷ []) $
-        join ! $ use2 W (raw (Fill 𝓤 H A mem run .pre (to-fill l₁₄ ν ζ zo (r .rows) v))) (goes-fill l₁₄ ν ζ zo (r .rows) v (e .readable)) $
+        join ! $ use2 W (raw (Fill 𝓤 H A mem run .pre (to-fill l₁₄ ν ζ zo (r .rows) v))) (goes-fill l₁₄ ν ζ zo (r .rows) v (e .1)) $
         calls-at ! fm (Fill 𝓤 H A mem run) known-fill (to-fill l₁₄ ν ζ zo (r .rows) v) (and-then ! (load ! (from ! (stop !)) (look ! 19 refl)) (and-then ! (load ! (from ! (stop !)) (look ! 76 refl)) (and-then ! (load ! (from ! (stop !)) (look ! 74 refl)) (and-then ! (load ! (from ! (stop !)) (look ! 15 refl)) (and-then ! (load ! (from ! (fld ! refl (stop !))) (look-in ! 49 (sub ! 1 refl (whole !)))) (no-more !)))))) (λ w.
         use1 W (later (some (λ (o : Unit {0}). (FToks ν ⊛ ‵ (Nothing .own o (w ∷ []))) ⊛ raw (ensured 𝓤 H A fill.ended (fill.clauses 𝓤 H A mem run) (fill-κs ν) (fill-args l₁₄ ζ zo (r .rows)) tt o)))) (id⊢ 𝓤 _) $
         await ! tt $ pick ! (λ o. split ! $ move ! (1 ∷ []) $
@@ -305,7 +305,7 @@ module _ {M : Type 1} (𝓤 : URA M) (H : Heap 𝓤) (A : Atoms 𝓤) (W : Given
         free1 ! $ move ! (19 ∷ 20 ∷ []) $ free1 ! $ free0 ! $
         move ! (13 ∷ 0 ∷ []) $ join ! $ move ! (12 ∷ 0 ∷ []) $ join ! $ move ! (11 ∷ 0 ∷ []) $ join ! $ move ! (3 ∷ 0 ∷ []) $ join ! $ move ! (9 ∷ 0 ∷ []) $ join ! $ move ! (8 ∷ 0 ∷ []) $
         join ! $ move ! (7 ∷ 0 ∷ []) $ join ! $ move ! (6 ∷ 0 ∷ []) $ join ! $ move ! (1 ∷ 0 ∷ []) $ join ! $ move ! (1 ∷ 0 ∷ []) $ join ! $ owned ! F.the-row (Is F.the-row) (EL.makes F.the-type F′.the-plain 𝓤 H A) (r .answer) _ isu $
-        keep ! (1 ∷ 5 ∷ 6 ∷ 3 ∷ 7 ∷ 8 ∷ 9 ∷ 0 ∷ []) $ by ! (exits (r .answer) _ z₇ z₈ (ts .0) z₁₀ z₁₁ z₁₂ (record { answer = e .answer; sections = e .sections; programs = e .programs; functions = f ∙ e .functions; maps = e .maps; relocations = e .relocations; bytes = e .bytes }) e₇ e₈ e₉ e₁₀ e₁₁ e₁₂)))))))
+        keep ! (1 ∷ 5 ∷ 6 ∷ 3 ∷ 7 ∷ 8 ∷ 9 ∷ 0 ∷ []) $ by ! (exits (r .answer) _ z₇ z₈ (ts .0) z₁₀ z₁₁ z₁₂ (ap (λ (fs : List Function). outcome (r .answer) (lent z₇ z₈ fs z₁₀ z₁₁ z₁₂)) f ∙ e .0) e₇ e₈ e₉ e₁₀ e₁₁ e₁₂)))))))
 
   module _ (C : Calls 𝓤 H) (Λ : Loops 𝓤 H) (fm : FmC 𝓤 H (W .laws) C) (known-core : Triple 𝓤 (C #load-core) (Core 𝓤 H A mem run)) (known-fill : Triple 𝓤 (C #fill) (Fill 𝓤 H A mem run)) (Post : Val → SProp 𝓤)
       (exits : (r : Answer) (w : Val) (z₇ : List ℕ) (z₈ : List ℕ) (z₉ : List Function) (z₁₀ : List ℕ) (z₁₁ : List ℕ) (z₁₂ : List ℕ) → Loads result r z₇ z₈ z₉ z₁₀ z₁₁ z₁₂ → length z₇ ≡ length (x₇ .now) → length z₈ ≡ length (x₈ .now) → length z₉ ≡ length (x₉ .now) → length z₁₀ ≡ length (x₁₀ .now) → length z₁₁ ≡ length (x₁₁ .now) → length z₁₂ ≡ length (x₁₂ .now)

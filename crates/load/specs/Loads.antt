@@ -4,14 +4,8 @@ use mathlib.Core.List.{List}
 use Prim.Native.Nat.{ℕ}
 use Rattle.model.specs.declared.Answer.{Answer}
 use Rattle.model.specs.declared.Function.{Function}
-use Rattle.model.specs.Lent.{Outcome}
+use Rattle.model.specs.Lent.{lent, Outcome, outcome}
 
--- of the outcome o: the answer, and the lists of the lent tables and bytes at the end
-pub record Loads (o : Outcome) (r : Answer) (s p : List ℕ) (f : List Function) (m l b : List ℕ) : Type 0 where
-  pub answer : r ≡ o .reply
-  pub sections : s ≡ o .lent .sections
-  pub programs : p ≡ o .lent .programs
-  pub functions : f ≡ o .lent .functions
-  pub maps : m ≡ o .lent .maps
-  pub relocations : l ≡ o .lent .relocations
-  pub bytes : b ≡ o .lent .bytes
+-- the equation of the contracts, for the walks
+abbrev pub Loads : Outcome → Answer → List ℕ → List ℕ → List Function → List ℕ → List ℕ → List ℕ → Type 0
+Loads o r s p f m l b = outcome r (lent s p f m l b) ≡ o

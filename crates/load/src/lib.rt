@@ -2,10 +2,8 @@
 ghost use mathlib.Core.Path.{_≡_};
 ghost use Prim.Native.Nat.{_≤_};
 ghost use lib.Dec.{leb};
-ghost use lib.ListN.{length};
-ghost use Rattle.model.specs.Lent.{outcome, loadOf};
-ghost use Rattle.load_core.specs.Done.{lentRoom, Open, symbolsOf, verdictIn};
-ghost use Rattle.load.specs.Loads.{Loads};
+ghost use Rattle.model.specs.Lent.{lent, roomIn, outcome, outcomeIn, loadOf};
+ghost use Rattle.load_object.specs.Done.{Open, symbolsOf, verdictIn};
 use deposit::open;
 use function_table::fill;
 use load_core::load_core;
@@ -27,11 +25,16 @@ fn load_small(
     relocations: &mut [u64],
     bytes: &mut [u8],
 ) -> Answer
-    requires { ⌜ Open (now d) (now t) opened × (symbolsOf opened ≤ 256) ⌝ }
-    ensures { λ r. ⌜ Loads (outcome (lentRoom (length (now (sections .entry))) (length (now (programs .entry))) (length (now (functions .entry))) (length (now (maps .entry))) (length (now (relocations .entry))) (length (now (bytes .entry)))) (verdictIn (now (d .entry)) (now (t .entry)) opened (now (entries .entry)) (now (patches .entry)) rewrite)) r (now (sections .exit)) (now (programs .exit)) (now (functions .exit)) (now (maps .exit)) (now (relocations .exit)) (now (bytes .exit)) ⌝ }
+    requires { ⌜ Open (now d) (now t) opened × (symbolsOf opened ≤ 128) ⌝ }
+    ensures { λ r.
+        ⌜
+        outcome r (lent (now (sections .exit)) (now (programs .exit)) (now (functions .exit)) (now (maps .exit)) (now (relocations .exit)) (now (bytes .exit)))
+        ≡ outcomeIn (roomIn (lent (now (sections .entry)) (now (programs .entry)) (now (functions .entry)) (now (maps .entry)) (now (relocations .entry)) (now (bytes .entry))))
+        (verdictIn (now (d .entry)) (now (t .entry)) opened (now (entries .entry)) (now (patches .entry)) rewrite)
+        ⌝ }
 {
     let room = functions.len();
-    let mut order = [0u32; 256];
+    let mut order = [0u32; 128];
     let loaded = load_core(
         d,
         t,
@@ -66,7 +69,12 @@ fn load_medium(
     bytes: &mut [u8],
 ) -> Answer
     requires { ⌜ Open (now d) (now t) opened × (symbolsOf opened ≤ 4096) ⌝ }
-    ensures { λ r. ⌜ Loads (outcome (lentRoom (length (now (sections .entry))) (length (now (programs .entry))) (length (now (functions .entry))) (length (now (maps .entry))) (length (now (relocations .entry))) (length (now (bytes .entry)))) (verdictIn (now (d .entry)) (now (t .entry)) opened (now (entries .entry)) (now (patches .entry)) rewrite)) r (now (sections .exit)) (now (programs .exit)) (now (functions .exit)) (now (maps .exit)) (now (relocations .exit)) (now (bytes .exit)) ⌝ }
+    ensures { λ r.
+        ⌜
+        outcome r (lent (now (sections .exit)) (now (programs .exit)) (now (functions .exit)) (now (maps .exit)) (now (relocations .exit)) (now (bytes .exit)))
+        ≡ outcomeIn (roomIn (lent (now (sections .entry)) (now (programs .entry)) (now (functions .entry)) (now (maps .entry)) (now (relocations .entry)) (now (bytes .entry))))
+        (verdictIn (now (d .entry)) (now (t .entry)) opened (now (entries .entry)) (now (patches .entry)) rewrite)
+        ⌝ }
 {
     let room = functions.len();
     let mut order = [0u32; 4096];
@@ -105,7 +113,12 @@ fn load_large(
     bytes: &mut [u8],
 ) -> Answer
     requires { ⌜ Open (now d) (now t) opened ⌝ }
-    ensures { λ r. ⌜ Loads (outcome (lentRoom (length (now (sections .entry))) (length (now (programs .entry))) (length (now (functions .entry))) (length (now (maps .entry))) (length (now (relocations .entry))) (length (now (bytes .entry)))) (verdictIn (now (d .entry)) (now (t .entry)) opened (now (entries .entry)) (now (patches .entry)) rewrite)) r (now (sections .exit)) (now (programs .exit)) (now (functions .exit)) (now (maps .exit)) (now (relocations .exit)) (now (bytes .exit)) ⌝ }
+    ensures { λ r.
+        ⌜
+        outcome r (lent (now (sections .exit)) (now (programs .exit)) (now (functions .exit)) (now (maps .exit)) (now (relocations .exit)) (now (bytes .exit)))
+        ≡ outcomeIn (roomIn (lent (now (sections .entry)) (now (programs .entry)) (now (functions .entry)) (now (maps .entry)) (now (relocations .entry)) (now (bytes .entry))))
+        (verdictIn (now (d .entry)) (now (t .entry)) opened (now (entries .entry)) (now (patches .entry)) rewrite)
+        ⌝ }
 {
     let room = functions.len();
     let mut order = [0u32; 65536];
@@ -129,11 +142,11 @@ fn load_large(
 }
 
 fn is_small(opened: Opened) -> bool
-    ensures { λ r. ⌜ r ≡ leb (symbolsOf opened) 256 ⌝ }
+    ensures { λ r. ⌜ r ≡ leb (symbolsOf opened) 128 ⌝ }
 {
     match opened {
         Opened::Refused(_) => true,
-        Opened::View(v) => v.symbols <= 256,
+        Opened::View(v) => v.symbols <= 128,
     }
 }
 
@@ -161,7 +174,12 @@ fn load_more(
     bytes: &mut [u8],
 ) -> Answer
     requires { ⌜ Open (now d) (now t) opened ⌝ }
-    ensures { λ r. ⌜ Loads (outcome (lentRoom (length (now (sections .entry))) (length (now (programs .entry))) (length (now (functions .entry))) (length (now (maps .entry))) (length (now (relocations .entry))) (length (now (bytes .entry)))) (verdictIn (now (d .entry)) (now (t .entry)) opened (now (entries .entry)) (now (patches .entry)) rewrite)) r (now (sections .exit)) (now (programs .exit)) (now (functions .exit)) (now (maps .exit)) (now (relocations .exit)) (now (bytes .exit)) ⌝ }
+    ensures { λ r.
+        ⌜
+        outcome r (lent (now (sections .exit)) (now (programs .exit)) (now (functions .exit)) (now (maps .exit)) (now (relocations .exit)) (now (bytes .exit)))
+        ≡ outcomeIn (roomIn (lent (now (sections .entry)) (now (programs .entry)) (now (functions .entry)) (now (maps .entry)) (now (relocations .entry)) (now (bytes .entry))))
+        (verdictIn (now (d .entry)) (now (t .entry)) opened (now (entries .entry)) (now (patches .entry)) rewrite)
+        ⌝ }
 {
     if is_medium(opened) {
         load_medium(
@@ -212,7 +230,12 @@ pub fn load_opened(
     bytes: &mut [u8],
 ) -> Answer
     requires { ⌜ Open (now d) (now t) opened ⌝ }
-    ensures { λ r. ⌜ Loads (outcome (lentRoom (length (now (sections .entry))) (length (now (programs .entry))) (length (now (functions .entry))) (length (now (maps .entry))) (length (now (relocations .entry))) (length (now (bytes .entry)))) (verdictIn (now (d .entry)) (now (t .entry)) opened (now (entries .entry)) (now (patches .entry)) rewrite)) r (now (sections .exit)) (now (programs .exit)) (now (functions .exit)) (now (maps .exit)) (now (relocations .exit)) (now (bytes .exit)) ⌝ }
+    ensures { λ r.
+        ⌜
+        outcome r (lent (now (sections .exit)) (now (programs .exit)) (now (functions .exit)) (now (maps .exit)) (now (relocations .exit)) (now (bytes .exit)))
+        ≡ outcomeIn (roomIn (lent (now (sections .entry)) (now (programs .entry)) (now (functions .entry)) (now (maps .entry)) (now (relocations .entry)) (now (bytes .entry))))
+        (verdictIn (now (d .entry)) (now (t .entry)) opened (now (entries .entry)) (now (patches .entry)) rewrite)
+        ⌝ }
 {
     if is_small(opened) {
         load_small(
@@ -260,7 +283,12 @@ pub fn load(
     relocations: &mut [u64],
     bytes: &mut [u8],
 ) -> Answer
-    ensures { λ r. ⌜ Loads (loadOf (now (d .entry)) (now (entries .entry)) (now (patches .entry)) rewrite (lentRoom (length (now (sections .entry))) (length (now (programs .entry))) (length (now (functions .entry))) (length (now (maps .entry))) (length (now (relocations .entry))) (length (now (bytes .entry))))) r (now (sections .exit)) (now (programs .exit)) (now (functions .exit)) (now (maps .exit)) (now (relocations .exit)) (now (bytes .exit)) ⌝ }
+    ensures { λ r.
+        ⌜
+        outcome r (lent (now (sections .exit)) (now (programs .exit)) (now (functions .exit)) (now (maps .exit)) (now (relocations .exit)) (now (bytes .exit)))
+        ≡ loadOf (now (d .entry)) (now (entries .entry)) (now (patches .entry)) rewrite
+        (roomIn (lent (now (sections .entry)) (now (programs .entry)) (now (functions .entry)) (now (maps .entry)) (now (relocations .entry)) (now (bytes .entry))))
+        ⌝ }
 {
     let opened = open(d);
     let t = [0u32; 0];

@@ -19,7 +19,8 @@ use Rattle.model.specs.Refusals.{refusalOf}
 use Rattle.model.specs.Patching.{accepted, finish, verdict, load}
 use Rattle.model.specs.Deposit.{objectOf}
 use Rattle.model.specs.PatchList.{patchesOf}
-use Rattle.model.specs.Lent.{functionsAt, codeStart, summaryOf, imageOf, Room, filled, filledTo, zeroRow, loadOf}
+use Rattle.model.specs.Lent.{functionsAt, codeStart, summaryOf, imageOf, filled, filledTo, zeroRow, loadOf}
+use Rattle.model.specs.declared.Room.{Room}
 use Rattle.guarantees.specs.TableLaws.{Sorted, sorted-table}
 use Rattle.guarantees.specs.AcceptedDeposits.{deposit-accepted}
 use Rattle.guarantees.specs.SecondHalf.{accepted-is}

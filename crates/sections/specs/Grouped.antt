@@ -1,14 +1,14 @@
 -- The group of one section's symbols, and its defined text in order of address.
 use mathlib.Core.Path.{_≡_, refl, sym, ap, _∙_}
 use mathlib.Core.Bool.{Bool, true, false, cond}
-use mathlib.Core.List.{List, [], _∷_, _++_}
+use mathlib.Core.List.{List, [], _∷_}
 use mathlib.Core.Option.{none, some}
 use Prim.Native.Nat.{ℕ, _+_, _-_, _<_, _≤_}
 use native.Mathlib.Omega.{arith}
 use borrow.Author.Tests.{eqb-false, ne-eqb, eqb-true}
 use lib.Dec.{eqb}
 use lib.ListN.{length, take, drop}
-use lib.Seq.{slice, length-slice, length-take-le, take-add, take-at, drop-at}
+use lib.Seq.{slice, length-slice, length-take-le, take-add, take-all, drop-at}
 use Rattle.lists.specs.Slice.{slice-none}
 use Rattle.lists.specs.Tab.{tab, length-tab}
 use Rattle.object_view.specs.declared.View.{View}
@@ -148,11 +148,11 @@ module _ (d t : List ℕ) (v : View) where
     text-any true q = let e = no-members s (eqb-true (s .index .0) 4294967295 q) in ap (λ l. keep (λ j. isDefinedText (symbolIn d t v j)) (sorted (byPlace (symbolIn d t v)) l)) e ∙ text-none e
     text-any false q = text-some (λ r. eqb-false (s .index .0) 4294967295 q (sym index-is ∙ r))
 
-    -- a copy of the group, sorted by address, at the front of a list
-    pub text-ready : (order y rest : List ℕ) (lo hi n : ℕ) → slice lo hi order ≡ membersIn d t v s → hi ≤ length order → n ≡ hi - lo
-        → y ≡ sorted (byKey (keyOf By.SymbolAddress d t v)) (slice lo hi order) → textGroup d t v (y ++ rest) 0 n ≡ textIn d t v sec
+    -- a copy of the group, sorted by address
+    pub text-ready : (order y : List ℕ) (lo hi : ℕ) → slice lo hi order ≡ membersIn d t v s → hi ≤ length order
+        → y ≡ sorted (byKey (keyOf By.SymbolAddress d t v)) (slice lo hi order) → textGroup d t v y 0 (hi - lo) ≡ textIn d t v sec
     unfolding textGroup
-    text-ready order y rest lo hi n g w e q =
-        let l : length y ≡ n = ap length q ∙ rw (length-sorted, length-slice lo hi order w) (sym e) in
-        ap (keep (λ j. isDefinedText (symbolIn d t v j))) (take-at y rest n l ∙ q ∙ (λ k. sorted (byKey (place-keys d t v k)) (g k)))
+    text-ready order y lo hi g w q =
+        let l : length y ≡ hi - lo = ap length q ∙ rw (length-sorted, length-slice lo hi order w) in
+        ap (keep (λ j. isDefinedText (symbolIn d t v j))) (take-all (hi - lo) y (omega arith) ∙ q ∙ (λ k. sorted (byKey (place-keys d t v k)) (g k)))
         ∙ text-any (eqb (s .index .0) 4294967295) refl

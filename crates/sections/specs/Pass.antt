@@ -30,7 +30,7 @@ use Rattle.sections.specs.declared.Tables.{Tables}
 use Rattle.sections.specs.Grouped.{GroupOf, Reached, reached-start, reached-next, all-symbols}
 use Rattle.sections.specs.Answers.{Answers, functionsBy, functions-by}
 use Rattle.sections.specs.Lists.{few-sections, few-programs, few-maps, sections-by, programs-by, maps-by, RoomFor, Lists}
-use Rattle.sections.specs.Candidates.{Candidates, candidates-none, candidates-inside, candidates-lent, candidates-back, candidates-next, candidates-own}
+use Rattle.sections.specs.Candidates.{Candidates, candidates-none, candidates-inside, candidates-lent, candidates-back, candidates-past, candidates-next, candidates-own}
 
 module _ (d t : List ℕ) (v : View) where
   abbrev o : Object
@@ -130,6 +130,22 @@ module _ (d t : List ℕ) (v : View) where
             of-programs = rw (ap (rows (programsFrom d t v)) q) at (g .of-programs);
             of-functions = rw (ap (rows (functionsFrom d t v)) q) at (g .of-functions);
             of-maps = rw (ap (rows (mapsFrom d t v)) q) at (g .of-maps);
+          }
+
+      -- what lies past the programs and the maps that are listed may change
+      pub going-past : (lo k : ℕ) (ps ms : List ℕ) → from ≤ lo → i + from ≤ k → Going order sections (take lo programs ++ ps) functions (take k maps ++ ms) i from n
+      going-past lo k ps ms h j =
+          record {
+            reached = g .reached;
+            fine = g .fine;
+            few-sections = g .few-sections;
+            few-programs = g .few-programs;
+            few-functions = g .few-functions;
+            few-maps = g .few-maps;
+            of-sections = g .of-sections;
+            of-programs = candidates-past (g .of-programs) lo ps (omega (arith, g .few-programs, g .few-functions));
+            of-functions = g .of-functions;
+            of-maps = candidates-past (g .of-maps) k ms (omega (arith, g .few-maps));
           }
 
       module _ (l : i < v .sections) (readable : Readable d t v) (lo hi : ℕ) (b : GroupOf d t v (sectionAt d t v i) order from lo hi) where

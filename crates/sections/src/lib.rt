@@ -25,6 +25,7 @@ use model::EbpfSectionKind;
 use model::Refusal;
 use model::SectionRecord;
 use object_view::View;
+use stream::size;
 use text::ParsedText;
 use view::Checked;
 
@@ -52,7 +53,10 @@ struct Group {
 
 // The group of a section; those of the sections before it end at `from`.
 fn group_of(d: &[u8], t: &[u32], v: View, s: SectionRecord, order: &[u32], from: usize) -> Group
-    requires { ⌜ (from ≤ length (now order)) × (now order ≡ sorted (bySection (symbolIn (now d) (now t) v)) (upTo (v .symbols))) × Passed (now d) (now t) v (now order) from (s .index .0) ⌝ }
+    requires { ⌜
+        (from ≤ length (now order)) × (now order ≡ sorted (bySection (symbolIn (now d) (now t) v)) (upTo (v .symbols)))
+        × Passed (now d) (now t) v (now order) from (s .index .0)
+        ⌝ }
     ensures { λ r. ⌜ GroupOf (now (d .entry)) (now (t .entry)) v s (now (order .entry)) from (r .lo) (r .hi) ⌝ }
 {
     let k = s.index.0;
@@ -85,8 +89,15 @@ fn parse_programs(
     functions: &mut [u32],
     w: usize,
 ) -> ParsedText
-    requires { ⌜ (lo ≤ hi) × (hi ≤ length (now order)) × (w + (hi - lo) ≤ length (now functions)) × (slice lo hi (now order) ≡ membersIn (now d) (now t) v s) ⌝ }
-    ensures { λ r. ⌜ Answers (programRefusal (objectIn (now (d .entry)) (now (t .entry)) v) (sectionFrom (now (d .entry)) (now (t .entry)) v s)) (programsAmong (now (d .entry)) (now (t .entry)) v (membersIn (now (d .entry)) (now (t .entry)) v s)) (now (functions .entry)) w r (now (functions .exit)) ⌝ }
+    requires { ⌜
+        (lo ≤ hi) × (hi ≤ length (now order)) × (w + (hi - lo) ≤ length (now functions)) × (slice lo hi (now order) ≡ membersIn (now d) (now t) v s)
+        ⌝ }
+    ensures { λ r.
+        ⌜
+        Answers (programRefusal (objectIn (now (d .entry)) (now (t .entry)) v) (sectionFrom (now (d .entry)) (now (t .entry)) v s))
+        (programsAmong (now (d .entry)) (now (t .entry)) v (membersIn (now (d .entry)) (now (t .entry)) v s)) (now (functions .entry)) w r
+        (now (functions .exit))
+        ⌝ }
 {
     match programs::program_refusal(d, t, v, s, order, lo, hi) {
         Checked::Refused(r) => ParsedText::Refused(r),
@@ -127,11 +138,18 @@ fn parse_text_section(
     functions: &mut [u32],
     w: usize,
 ) -> ParsedText
-    requires { ⌜ (lo ≤ hi) × (hi ≤ length (now order)) × (w + (hi - lo) ≤ length (now functions)) × (slice lo hi (now order) ≡ membersIn (now d) (now t) v s) × (hi - lo ≤ length (now group)) × (hi - lo ≤ length (now tmp)) ⌝ }
-    ensures { λ r. ⌜ Answers (textRefusal (objectIn (now (d .entry)) (now (t .entry)) v) (sectionFrom (now (d .entry)) (now (t .entry)) v s)) (walkedIn (now (d .entry)) (now (t .entry)) v s) (now (functions .entry)) w r (now (functions .exit)) ⌝ }
+    requires { ⌜
+        (lo ≤ hi) × (hi ≤ length (now order)) × (w + (hi - lo) ≤ length (now functions)) × (slice lo hi (now order) ≡ membersIn (now d) (now t) v s)
+        × (length (now group) ≡ hi - lo) × (length (now tmp) ≡ hi - lo)
+        ⌝ }
+    ensures { λ r.
+        ⌜
+        Answers (textRefusal (objectIn (now (d .entry)) (now (t .entry)) v) (sectionFrom (now (d .entry)) (now (t .entry)) v s))
+        (walkedIn (now (d .entry)) (now (t .entry)) v s) (now (functions .entry)) w r (now (functions .exit))
+        ⌝ }
 {
     let n = hi - lo;
-    by_address(d, t, v, order, lo, hi, &mut group[0..n], &mut tmp[0..n]);
+    by_address(d, t, v, order, lo, hi, group, tmp);
     text::parse_text_section(d, t, v, s, group, 0, n, functions, w)
 }
 
@@ -150,8 +168,15 @@ fn parse_kind(
     functions: &mut [u32],
     w: usize,
 ) -> ParsedText
-    requires { ⌜ (lo ≤ hi) × (hi ≤ length (now order)) × (w + (hi - lo) ≤ length (now functions)) × (slice lo hi (now order) ≡ membersIn (now d) (now t) v s) × (hi - lo ≤ length (now group)) × (hi - lo ≤ length (now tmp)) × (kind ≡ kindOf (sectionFrom (now d) (now t) v s)) ⌝ }
-    ensures { λ r. ⌜ Answers (kindRefusal (objectIn (now (d .entry)) (now (t .entry)) v) (sectionFrom (now (d .entry)) (now (t .entry)) v s)) (functionsBy (now (d .entry)) (now (t .entry)) v s) (now (functions .entry)) w r (now (functions .exit)) ⌝ }
+    requires { ⌜
+        (lo ≤ hi) × (hi ≤ length (now order)) × (w + (hi - lo) ≤ length (now functions)) × (slice lo hi (now order) ≡ membersIn (now d) (now t) v s)
+        × (length (now group) ≡ hi - lo) × (length (now tmp) ≡ hi - lo) × (kind ≡ kindOf (sectionFrom (now d) (now t) v s))
+        ⌝ }
+    ensures { λ r.
+        ⌜
+        Answers (kindRefusal (objectIn (now (d .entry)) (now (t .entry)) v) (sectionFrom (now (d .entry)) (now (t .entry)) v s))
+        (functionsBy (now (d .entry)) (now (t .entry)) v s) (now (functions .entry)) w r (now (functions .exit))
+        ⌝ }
 {
     match kind {
         EbpfSectionKind::Program => { parse_programs(d, t, v, s, order, lo, hi, functions, w) }
@@ -193,8 +218,16 @@ fn parse_section(
     functions: &mut [u32],
     w: usize,
 ) -> ParsedText
-    requires { ⌜ (lo ≤ hi) × (hi ≤ length (now order)) × (w + (hi - lo) ≤ length (now functions)) × (slice lo hi (now order) ≡ membersIn (now d) (now t) v s) × (hi - lo ≤ length (now group)) × (hi - lo ≤ length (now tmp)) × (kind ≡ kindOf (sectionFrom (now d) (now t) v s)) × NextOf (now d) (now t) v (now next) × (s .relocations .at + s .relocations .length ≤ v .relocations) ⌝ }
-    ensures { λ r. ⌜ Answers (sectionRefusal (objectIn (now (d .entry)) (now (t .entry)) v) (sectionFrom (now (d .entry)) (now (t .entry)) v s)) (functionsBy (now (d .entry)) (now (t .entry)) v s) (now (functions .entry)) w r (now (functions .exit)) ⌝ }
+    requires { ⌜
+        (lo ≤ hi) × (hi ≤ length (now order)) × (w + (hi - lo) ≤ length (now functions)) × (slice lo hi (now order) ≡ membersIn (now d) (now t) v s)
+        × (length (now group) ≡ hi - lo) × (length (now tmp) ≡ hi - lo) × (kind ≡ kindOf (sectionFrom (now d) (now t) v s))
+        × NextOf (now d) (now t) v (now next) × (s .relocations .at + s .relocations .length ≤ v .relocations)
+        ⌝ }
+    ensures { λ r.
+        ⌜
+        Answers (sectionRefusal (objectIn (now (d .entry)) (now (t .entry)) v) (sectionFrom (now (d .entry)) (now (t .entry)) v s))
+        (functionsBy (now (d .entry)) (now (t .entry)) v s) (now (functions .entry)) w r (now (functions .exit))
+        ⌝ }
 {
     if is_btf_ext(kind) {
         return ParsedText::Functions(w);
@@ -250,7 +283,10 @@ fn list_maps(
     out: &mut [u32],
     w: usize,
 ) -> usize
-    requires { ⌜ (lo ≤ hi) × (hi ≤ length (now order)) × (w + (hi - lo) < length (now out)) × ((k : ℕ) → lo ≤ k → k < hi → sections + getD (now order) k 0 < 2 ^ 32) ⌝ }
+    requires { ⌜
+        (lo ≤ hi) × (hi ≤ length (now order)) × (w + (hi - lo) < length (now out))
+        × ((k : ℕ) → lo ≤ k → k < hi → sections + getD (now order) k 0 < 2 ^ 32)
+        ⌝ }
     ensures { λ r. ⌜ Laid w r (mapsOf sections kind i (slice lo hi (now (order .entry)))) (now (out .entry)) (now (out .exit)) ⌝ }
 {
     match kind {
@@ -279,7 +315,11 @@ fn list_others(
     m: usize,
 ) -> Counts
     requires { ⌜ RoomFor count (now order) lo hi (now sections) (now programs) (now functions) (now maps) n m ⌝ }
-    ensures { λ r. ⌜ Lists count kind i (slice lo hi (now (order .entry))) (slice (n .functions) m (now (functions .entry))) n m r (now (sections .entry)) (now (programs .entry)) (now (maps .entry)) (now (sections .exit)) (now (programs .exit)) (now (maps .exit)) ⌝ }
+    ensures { λ r.
+        ⌜
+        Lists count kind i (slice lo hi (now (order .entry))) (slice (n .functions) m (now (functions .entry))) n m r (now (sections .entry))
+        (now (programs .entry)) (now (maps .entry)) (now (sections .exit)) (now (programs .exit)) (now (maps .exit))
+        ⌝ }
 {
     Counts {
         sections: list_section(kind, i, sections, n.sections),
@@ -289,24 +329,31 @@ fn list_others(
     }
 }
 
-// The sections by index; what each lists is appended. Functions are never more than the symbols that were passed.
+// The sections by index; what each lists is appended. No more is listed than was passed, so a group is sorted past that, in programs and maps.
 fn parse_sections(
     d: &[u8],
     t: &[u32],
     v: View,
     next: &[u32],
     order: &[u32],
-    group: &mut [u32],
-    tmp: &mut [u32],
     sections: &mut [u32],
     programs: &mut [u32],
     functions: &mut [u32],
     maps: &mut [u32],
 ) -> Tables
-    requires { ⌜ NextOf (now d) (now t) v (now next) × (now order ≡ sorted (bySection (symbolIn (now d) (now t) v)) (upTo (v .symbols))) × (v .symbols ≤ length (now group)) × (v .symbols ≤ length (now tmp)) × (v .sections ≤ length (now sections)) × (v .symbols ≤ length (now programs)) × (v .symbols ≤ length (now functions)) × (v .sections + v .symbols ≤ length (now maps)) × Readable (now d) (now t) v ⌝ }
-    ensures { λ r. ⌜ Listed (now (d .entry)) (now (t .entry)) v (sectionsRefused (now (d .entry)) (now (t .entry)) v) r (now (sections .exit)) (now (programs .exit)) (now (functions .exit)) (now (maps .exit)) ⌝ }
+    requires { ⌜
+        NextOf (now d) (now t) v (now next) × (now order ≡ sorted (bySection (symbolIn (now d) (now t) v)) (upTo (v .symbols)))
+        × (v .sections ≤ length (now sections)) × (v .symbols ≤ length (now programs)) × (v .symbols ≤ length (now functions))
+        × (v .sections + v .symbols ≤ length (now maps)) × Readable (now d) (now t) v
+        ⌝ }
+    ensures { λ r.
+        ⌜
+        Listed (now (d .entry)) (now (t .entry)) v (sectionsRefused (now (d .entry)) (now (t .entry)) v) r (now (sections .exit))
+        (now (programs .exit)) (now (functions .exit)) (now (maps .exit))
+        ⌝ }
 {
     let end = v.sections;
+    let count = size(end);
     let mut i: u32 = 0;
     let mut from: usize = 0;
     let mut n = Counts {
@@ -321,6 +368,8 @@ fn parse_sections(
         let at = group_of(d, t, v, s, order, from);
         let lo = at.lo;
         let hi = at.hi;
+        let a = count + lo;
+        let b = count + hi;
         let w = n.functions;
         match parse_section(
             d,
@@ -332,8 +381,8 @@ fn parse_sections(
             order,
             lo,
             hi,
-            group,
-            tmp,
+            &mut programs[lo..hi],
+            &mut maps[a..b],
             &mut functions[0..hi],
             w,
         ) {
@@ -361,42 +410,37 @@ fn parse_sections(
     Tables::Numbers(n)
 }
 
-// Numbers 4 to 17; all symbols sorted by section; the numbers that the sections list for each table, in their order.
+// Numbers 4 to 17; the numbers that the sections list for each table, in their order. next and order are worked in.
 pub fn parse_object(
     d: &[u8],
     t: &[u32],
     v: View,
     next: &mut [u32],
     order: &mut [u32],
-    group: &mut [u32],
-    tmp: &mut [u32],
     sections: &mut [u32],
     programs: &mut [u32],
     functions: &mut [u32],
     maps: &mut [u32],
 ) -> Tables
-    requires { ⌜ (v .relocations ≤ length (now next)) × (length (now order) ≡ v .symbols) × (v .symbols ≤ length (now group)) × (length (now tmp) ≡ v .symbols) × (v .sections ≤ length (now sections)) × (v .symbols ≤ length (now programs)) × (v .symbols ≤ length (now functions)) × (v .sections + v .symbols ≤ length (now maps)) × Readable (now d) (now t) v ⌝ }
-    ensures { λ r. ⌜ (now (order .exit) ≡ sorted (bySection (symbolIn (now (d .entry)) (now (t .entry)) v)) (upTo (v .symbols))) × Listed (now (d .entry)) (now (t .entry)) v (objectRefusal (objectIn (now (d .entry)) (now (t .entry)) v)) r (now (sections .exit)) (now (programs .exit)) (now (functions .exit)) (now (maps .exit)) ⌝ }
+    requires { ⌜
+        (v .relocations ≤ length (now next)) × (length (now order) ≡ v .symbols) × (v .sections ≤ length (now sections))
+        × (v .symbols ≤ length (now programs)) × (v .symbols ≤ length (now functions)) × (v .sections + v .symbols ≤ length (now maps))
+        × Readable (now d) (now t) v
+        ⌝ }
+    ensures { λ r.
+        ⌜
+        Listed (now (d .entry)) (now (t .entry)) v (objectRefusal (objectIn (now (d .entry)) (now (t .entry)) v)) r (now (sections .exit))
+        (now (programs .exit)) (now (functions .exit)) (now (maps .exit))
+        ⌝ }
 {
     first_checks::next_untargeted(d, t, v, next);
-    groups::by_section(d, t, v, order, tmp);
+    let y = size(v.symbols);
+    groups::by_section(d, t, v, order, &mut programs[0..y]);
     if let Checked::Refused(r) = first_checks::license_refusal(d, t, v, next) {
         return Tables::Refused(r);
     }
     if let Checked::Refused(r) = first_checks::version_refusal(d, t, v, next) {
         return Tables::Refused(r);
     }
-    parse_sections(
-        d,
-        t,
-        v,
-        next,
-        order,
-        group,
-        tmp,
-        sections,
-        programs,
-        functions,
-        maps,
-    )
+    parse_sections(d, t, v, next, order, sections, programs, functions, maps)
 }

@@ -25,8 +25,15 @@ fn number_tables(
     tmp: &mut [u32],
     n: Counts,
 ) -> Counts
-    requires { ⌜ Found (now d) (now t) v (objectRefusal (objectIn (now d) (now t) v)) n (now sections) (now programs) (now functions) (now maps) × (v .sections + v .symbols ≤ length (now tmp)) ⌝ }
-    ensures { λ r. ⌜ (r ≡ countsOf (now (d .entry)) (now (t .entry)) v) × Held (now (d .entry)) (now (t .entry)) v (now (sections .exit)) (now (programs .exit)) (now (functions .exit)) (now (maps .exit)) ⌝ }
+    requires { ⌜
+        Found (now d) (now t) v (objectRefusal (objectIn (now d) (now t) v)) n (now sections) (now programs) (now functions) (now maps)
+        × (v .sections + v .symbols ≤ length (now tmp))
+        ⌝ }
+    ensures { λ r.
+        ⌜
+        (r ≡ countsOf (now (d .entry)) (now (t .entry)) v)
+        × Held (now (d .entry)) (now (t .entry)) v (now (sections .exit)) (now (programs .exit)) (now (functions .exit)) (now (maps .exit))
+        ⌝ }
 {
     Counts {
         sections: sort::table(d, t, v, By::SectionName, sections, tmp, n.sections),
@@ -36,7 +43,7 @@ fn number_tables(
     }
 }
 
-// Numbers 4 to 17, or the record numbers of each table; tmp, symbols, next and group are worked in.
+// Numbers 4 to 17, or the record numbers of each table; order and next are worked in.
 pub fn parse(
     d: &[u8],
     t: &[u32],
@@ -45,12 +52,14 @@ pub fn parse(
     programs: &mut [u32],
     functions: &mut [u32],
     maps: &mut [u32],
-    tmp: &mut [u32],
-    symbols: &mut [u32],
+    order: &mut [u32],
     next: &mut [u32],
-    group: &mut [u32],
 ) -> Tables
-    requires { ⌜ (v .sections ≤ length (now sections)) × (v .symbols ≤ length (now programs)) × (v .symbols ≤ length (now functions)) × (v .sections + v .symbols ≤ length (now maps)) × (v .sections + v .symbols ≤ length (now tmp)) × (v .symbols ≤ length (now symbols)) × (v .relocations ≤ length (now next)) × (v .symbols ≤ length (now group)) × Readable (now d) (now t) v ⌝ }
+    requires { ⌜
+        (v .sections ≤ length (now sections)) × (v .symbols ≤ length (now programs)) × (v .symbols ≤ length (now functions))
+        × (v .sections + v .symbols ≤ length (now maps)) × (v .sections + v .symbols ≤ length (now order))
+        × (v .relocations ≤ length (now next)) × Readable (now d) (now t) v
+        ⌝ }
     ensures { λ r. ⌜ Parsed (now (d .entry)) (now (t .entry)) v r (now (sections .exit)) (now (programs .exit)) (now (functions .exit)) (now (maps .exit)) ⌝ }
 {
     let y = size(v.symbols);
@@ -59,9 +68,7 @@ pub fn parse(
         t,
         v,
         next,
-        &mut symbols[0..y],
-        group,
-        &mut tmp[0..y],
+        &mut order[0..y],
         sections,
         programs,
         functions,
@@ -70,7 +77,7 @@ pub fn parse(
     match listed {
         Tables::Refused(r) => Tables::Refused(r),
         Tables::Numbers(n) => {
-            let counts = number_tables(d, t, v, sections, programs, functions, maps, tmp, n);
+            let counts = number_tables(d, t, v, sections, programs, functions, maps, order, n);
             Tables::Numbers(counts)
         }
     }

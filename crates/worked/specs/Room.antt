@@ -5,7 +5,7 @@ use mathlib.Core.List.{List, [], _∷_}
 use Prim.Native.Nat.{ℕ}
 use lib.ListN.{replicate}
 use Rattle.model.specs.declared.Answer.{Answer}
-use Rattle.model.specs.Lent.{Room}
+use Rattle.model.specs.declared.Room.{Room}
 use Rattle.worked.specs.Write.{text, plain, relocated, func, reloc, deposit}
 use Rattle.worked.specs.Run.{called, room, row}
 

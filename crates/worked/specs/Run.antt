@@ -27,7 +27,8 @@ use Rattle.model.specs.Patching.{patchMap, withMaps, patchMaps, patched, rewrit
 use Rattle.model.specs.Deposit.{weigh, checkOk, checksOk, frameOk, streamIn, streamOf, headOf, sectionRecord, symbolRecord, relocationRecord, partsFrom, partsOf, endOf, all, allZero, headOk, lengthOk, nameOk, sectionOk, symbolOk, relocationOk, risingFrom, recordsOk, streamRules, streamOk, relocOf, sectionOf, symbolKind, symbolOf, byteOrder, statedBy, objectOf, hasBtf, depositRefusal, loadDeposit}
 use Rattle.model.specs.PatchList.{patchFrom, patchesOf}
 use Rattle.model.specs.ProgramNumbers.{variantOf}
-use Rattle.model.specs.Lent.{placed, sectionRow, programRow, functionRow, mapRow, relocationRow, bytesOf, sectionsAt, programsAt, functionsAt, codeStart, mapsAt, ownStart, summaryOf, imageOf, Room, fitsIn, filledTo, zeroed, Outcome, loadOf}
+use Rattle.model.specs.Lent.{placed, sectionRow, programRow, functionRow, mapRow, relocationRow, bytesOf, sectionsAt, programsAt, functionsAt, codeStart, mapsAt, ownStart, summaryOf, imageOf, fitsIn, filledTo, zeroed, Outcome, loadOf}
+use Rattle.model.specs.declared.Room.{Room}
 use Rattle.model.specs.ReadBack.{programFrom, kindFrom, sectionFrom, programRead, functionRead, mapRead, relocationRead, readBack}
 use Rattle.model.specs.Listing.{digits, line, variantName, programLine, functionLine, mapLine, catalogueText, refusalText, textOf, listingOf}
 use Rattle.worked.specs.Write.{sectionBytes, symbolBytes, sum, blocksFrom, blocks, deposit}

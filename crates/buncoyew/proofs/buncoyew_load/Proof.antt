@@ -42,11 +42,10 @@ use denote.Triple.Walked.{says, Stays, gave-slice, stay-ref, stay-dropped, walkO
 use denote.Exit.{yes}
 use Rattle.model.specs.declared.Answer.{Answer}
 use Rattle.model.specs.declared.Function.{Function}
-use Rattle.model.specs.Lent.{Outcome, loadOf}
-use Rattle.load_core.specs.Done.{lentRoom}
+use Rattle.model.specs.Lent.{lent, roomIn, Outcome, loadOf}
 use Rattle.load.specs.Loads.{Loads}
 use Rattle.buncoyew.specs.declared.LoadAnswer.{LoadAnswer}
-use Rattle.buncoyew.specs.Called.{answerOf, Called}
+use Rattle.buncoyew.specs.Called.{answerOf, call, callOf}
 use Rattle.model.proofs.Function as T
 use Rattle.model.proofs.Answer as F
 use Rattle.model.proofs.Answer.Laws as F′
@@ -82,8 +81,8 @@ module _ {M : Type 1} (𝓤 : URA M) (H : Heap 𝓤) (A : Atoms 𝓤) (mem : Mem
 module _ {M : Type 1} (𝓤 : URA M) (H : Heap 𝓤) (A : Atoms 𝓤) (W : Given 𝓤 H A) (at-mem : Memory → SProp 𝓤) (run : Routine → Fun 𝓤)
     (κ₁ κ₂ κ₃ κ₅ κ₆ κ₇ κ₈ κ₉ κ₁₀ κ₁₁ : Lft) (q₁ q₂ q₃ q₅ q₆ q₇ q₈ q₉ q₁₀ q₁₁ : Share) (x₁ : RefT (List ℕ)) (x₂ : RefT (List ℕ)) (x₃ : RefT (List ℕ)) (t : Bool) (x₅ : RefT (List ℕ)) (x₆ : RefT (List ℕ)) (x₇ : RefT (List Function)) (x₈ : RefT (List ℕ)) (x₉ : RefT (List ℕ)) (x₁₀ : RefT (List ℕ)) (b o : ℕ) (γ : GName) (h : LoadAnswer)
     (g₁ : Room u8 (length (x₁ .now))) (g₂ : Room u64 (length (x₂ .now))) (g₃ : Room u8 (length (x₃ .now))) (g₅ : Room u64 (length (x₅ .now))) (g₆ : Room u64 (length (x₆ .now))) (g₇ : Room T.the-row (length (x₇ .now))) (g₈ : Room u64 (length (x₈ .now))) (g₉ : Room u64 (length (x₉ .now))) (g₁₀ : Room u8 (length (x₁₀ .now))) where
-  abbrev outcome : Outcome
-  outcome = loadOf (x₁ .now) (x₂ .now) (x₃ .now) t (lentRoom (length (x₅ .now)) (length (x₆ .now)) (length (x₇ .now)) (length (x₈ .now)) (length (x₉ .now)) (length (x₁₀ .now)))
+  abbrev result : Outcome
+  result = loadOf (x₁ .now) (x₂ .now) (x₃ .now) t (roomIn (lent (x₅ .now) (x₆ .now) (x₇ .now) (x₈ .now) (x₉ .now) (x₁₀ .now)))
 
   -- what `load` is passed, and what it says of its answer and of the last lists
   abbrev load-κs : Lft × (Lft × (Lft × (Lft × (Lft × (Lft × (Lft × (Lft × (Lft × Unit {0}))))))))
@@ -102,7 +101,7 @@ module _ {M : Type 1} (𝓤 : URA M) (H : Heap 𝓤) (A : Atoms 𝓤) (W : Given
   Lasts = Unit {0} × (Unit {0} × (Unit {0} × (Unit {0} × (List ℕ × (List ℕ × (List Function × (List ℕ × (List ℕ × (List ℕ × Unit {0})))))))))
 
   abbrev Says : Answer → Lasts → Type 0
-  Says r zs = Loads outcome r (zs .1 .1 .1 .1 .0) (zs .1 .1 .1 .1 .1 .0) (zs .1 .1 .1 .1 .1 .1 .0) (zs .1 .1 .1 .1 .1 .1 .1 .0) (zs .1 .1 .1 .1 .1 .1 .1 .1 .0) (zs .1 .1 .1 .1 .1 .1 .1 .1 .1 .0)
+  Says r zs = Loads result r (zs .1 .1 .1 .1 .0) (zs .1 .1 .1 .1 .1 .0) (zs .1 .1 .1 .1 .1 .1 .0) (zs .1 .1 .1 .1 .1 .1 .1 .0) (zs .1 .1 .1 .1 .1 .1 .1 .1 .0) (zs .1 .1 .1 .1 .1 .1 .1 .1 .1 .0)
 
   abbrev Toks : Item 𝓤
   Toks = ‵ (flft κ₁ q₁) ⊛ ‵ (flft κ₂ q₂) ⊛ ‵ (flft κ₃ q₃) ⊛ ‵ (flft κ₅ q₅) ⊛ ‵ (flft κ₆ q₆) ⊛ ‵ (flft κ₇ q₇) ⊛ ‵ (flft κ₈ q₈) ⊛ ‵ (flft κ₉ q₉) ⊛ ‵ (flft κ₁₀ q₁₀) ⊛ ‵ ftrue
@@ -144,7 +143,7 @@ module _ {M : Type 1} (𝓤 : URA M) (H : Heap 𝓤) (A : Atoms 𝓤) (W : Given
   abbrev Post : Val → SProp 𝓤
   Post = walkOf 𝓤 H A f.ended stayed (f.clauses 𝓤 H A at-mem run) .post at
 
-  exits : (a : LoadAnswer) (z₅ : List ℕ) (z₆ : List ℕ) (z₇ : List Function) (z₈ : List ℕ) (z₉ : List ℕ) (z₁₀ : List ℕ) → Called outcome a z₅ z₆ z₇ z₈ z₉ z₁₀ → length z₅ ≡ length (x₅ .now) → length z₆ ≡ length (x₆ .now) → length z₇ ≡ length (x₇ .now) → length z₈ ≡ length (x₈ .now) → length z₉ ≡ length (x₉ .now) → length z₁₀ ≡ length (x₁₀ .now)
+  exits : (a : LoadAnswer) (z₅ : List ℕ) (z₆ : List ℕ) (z₇ : List Function) (z₈ : List ℕ) (z₉ : List ℕ) (z₁₀ : List ℕ) → call a (lent z₅ z₆ z₇ z₈ z₉ z₁₀) ≡ callOf result → length z₅ ≡ length (x₅ .now) → length z₆ ≡ length (x₆ .now) → length z₇ ≡ length (x₇ .now) → length z₈ ≡ length (x₈ .now) → length z₉ ≡ length (x₉ .now) → length z₁₀ ≡ length (x₁₀ .now)
       → ent 𝓤 (⋆ 𝓤 H A (Toks ∷ ‵ (flft κ₁₁ q₁₁) ∷ ‵ (finally u64 (x₅ .name) z₅) ∷ ‵ (finally u64 (x₆ .name) z₆) ∷ ‵ (finally T.the-row (x₇ .name) z₇) ∷ ‵ (finally u64 (x₈ .name) z₈) ∷ ‵ (finally u64 (x₉ .name) z₉) ∷ ‵ (finally u8 (x₁₀ .name) z₁₀) ∷ ‵ (fobs γ (R.the-row .coded .code a)) ∷ ‵ (fbor κ₁₁ (Body (mem R.the-row) b o γ)) ∷ [])) (Post vunit)
   exits a z₅ z₆ z₇ z₈ z₉ z₁₀ c e₅ e₆ e₇ e₈ e₉ e₁₀ =
       qed W (Toks ∷ ‵ (flft κ₁₁ q₁₁) ∷ ‵ (finally u64 (x₅ .name) z₅) ∷ ‵ (finally u64 (x₆ .name) z₆) ∷ ‵ (finally T.the-row (x₇ .name) z₇) ∷ ‵ (finally u64 (x₈ .name) z₈) ∷ ‵ (finally u64 (x₉ .name) z₉) ∷ ‵ (finally u8 (x₁₀ .name) z₁₀) ∷ ‵ (fobs γ (R.the-row .coded .code a)) ∷ ‵ (fbor κ₁₁ (Body (mem R.the-row) b o γ)) ∷ []) ∵ use2 W AllToks toks-whole $
@@ -162,16 +161,9 @@ module _ {M : Type 1} (𝓤 : URA M) (H : Heap 𝓤) (A : Atoms 𝓤) (W : Given
   goes-answer : (r : Answer) (w : Val) → Is F.the-row r (w ∷ []) → ent 𝓤 (emp 𝓤) (AnswerOf 𝓤 H A at-mem run .pre (to-answer r w))
   goes-answer r w is = qed W [] ∵ nothing ! $ owned ! F.the-row (Is F.the-row) (EL.makes F.the-type F′.the-plain 𝓤 H A) r _ is $ fjoin ! $ nothing ! $ join ! $ frame ! $ done !
 
-  called : (r : Answer) (a : LoadAnswer) (zs : Lasts) → Says r zs → a ≡ answerOf r → Called outcome a (zs .1 .1 .1 .1 .0) (zs .1 .1 .1 .1 .1 .0) (zs .1 .1 .1 .1 .1 .1 .0) (zs .1 .1 .1 .1 .1 .1 .1 .0) (zs .1 .1 .1 .1 .1 .1 .1 .1 .0) (zs .1 .1 .1 .1 .1 .1 .1 .1 .1 .0)
-  called r a zs l e = record {
-    answer = e ∙ ap answerOf (l .answer);
-    sections = l .sections;
-    programs = l .programs;
-    functions = l .functions;
-    maps = l .maps;
-    relocations = l .relocations;
-    bytes = l .bytes;
-  }
+  called : (r : Answer) (a : LoadAnswer) (zs : Lasts) → Says r zs → a ≡ answerOf r
+      → call a (lent (zs .1 .1 .1 .1 .0) (zs .1 .1 .1 .1 .1 .0) (zs .1 .1 .1 .1 .1 .1 .0) (zs .1 .1 .1 .1 .1 .1 .1 .0) (zs .1 .1 .1 .1 .1 .1 .1 .1 .0) (zs .1 .1 .1 .1 .1 .1 .1 .1 .1 .0)) ≡ callOf result
+  called r a zs l e = let answers : a ≡ answerOf (result .reply) = e ∙ ap (λ (o : Outcome). answerOf (o .reply)) l in λ i. record { answer = answers i; lent = l i .lent }
 
   module _ (C : Calls 𝓤 H) (Λ : Loops 𝓤 H) (fm : FmC 𝓤 H (W .laws) C) (known-load : Triple 𝓤 (C #load) (Load 𝓤 H A at-mem run)) (known-answer : Triple 𝓤 (C #answer-of) (AnswerOf 𝓤 H A at-mem run)) where
     walk : ent 𝓤 (⋆ 𝓤 H A (AllToks ∷ AllOwned ∷ [])) (WpFn 𝓤 H C Λ code.function (sliceVal (x₁ .ptr) (length (x₁ .now)) ∷ sliceVal (x₂ .ptr) (length (x₂ .now)) ∷ sliceVal (x₃ .ptr) (length (x₃ .now)) ∷ vbool t ∷ sliceVal (x₅ .ptr) (length (x₅ .now)) ∷ sliceVal (x₆ .ptr) (length (x₆ .now)) ∷ sliceVal (x₇ .ptr) (length (x₇ .now)) ∷ sliceVal (x₈ .ptr) (length (x₈ .now)) ∷ sliceVal (x₉ .ptr) (length (x₉ .now)) ∷ sliceVal (x₁₀ .ptr) (length (x₁₀ .now)) ∷ vptr b o ∷ []) Post)

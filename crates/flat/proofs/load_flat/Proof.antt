@@ -4,7 +4,7 @@ use lib.ListN.{length}
 use denote.Ref.{now}
 use borrow.Author.Needs.{needs}
 use Rattle.model.specs.Lent.{loadOf}
-use Rattle.load_core.specs.Done.{lentRoom}
+use Rattle.load_object.specs.Done.{lentRoom}
 use Rattle.flat.specs.Loads.{over-zeros}
 use Rattle.flat.proofs.load_flat.Statement.{statement}
 use Rattle.flat.proofs.load_flat.Tie as tie

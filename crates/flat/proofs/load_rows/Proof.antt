@@ -47,7 +47,7 @@ use denote.Exit.{yes}
 use Rattle.model.specs.declared.Answer.{Answer}
 use Rattle.model.specs.declared.Function.{Function}
 use Rattle.model.specs.Lent.{Outcome, loadOf}
-use Rattle.load_core.specs.Done.{lentRoom}
+use Rattle.load_object.specs.Done.{lentRoom}
 use Rattle.load.specs.Loads.{Loads}
 use Rattle.flat_rows.specs.Flat.{flatRows}
 use Rattle.flat.specs.Loads.{FlatLoads}
@@ -303,13 +303,13 @@ module _ {M : Type 1} (𝓤 : URA M) (H : Heap 𝓤) (A : Atoms 𝓤) (W : Given
   flat-loads r zs ts h e f =
       let loads : Loads outcome r (zs .1 .1 .1 .1 .0) (zs .1 .1 .1 .1 .1 .0) (zs .1 .1 .1 .1 .1 .1 .0) (zs .1 .1 .1 .1 .1 .1 .1 .0) (zs .1 .1 .1 .1 .1 .1 .1 .1 .0) (zs .1 .1 .1 .1 .1 .1 .1 .1 .1 .0) = subst (λ (m : ℕ). Loads (loadOf (x₁ .now) (x₂ .now) (x₃ .now) t (lentRoom (length (x₇ .now)) (length (x₈ .now)) m (length (x₁₀ .now)) (length (x₁₁ .now)) (length (x₁₂ .now)))) r (zs .1 .1 .1 .1 .0) (zs .1 .1 .1 .1 .1 .0) (zs .1 .1 .1 .1 .1 .1 .0) (zs .1 .1 .1 .1 .1 .1 .1 .0) (zs .1 .1 .1 .1 .1 .1 .1 .1 .0) (zs .1 .1 .1 .1 .1 .1 .1 .1 .1 .0)) (length-replicate n z) h in
       record {
-        answer = loads .answer;
-        sections = loads .sections;
-        programs = loads .programs;
-        functions = f ∙ ap (λ (m : ℕ). flatRows (zs .1 .1 .1 .1 .1 .1 .0) ++ dropped (m * 7) (x₉ .now)) (e ∙ length-replicate n z) ∙ ap (λ (l : List Function). flatRows l ++ dropped (n * 7) (x₉ .now)) (loads .functions);
-        maps = loads .maps;
-        relocations = loads .relocations;
-        bytes = loads .bytes;
+        answer = ap (λ (o : Outcome). o .reply) loads;
+        sections = ap (λ (o : Outcome). o .lent .sections) loads;
+        programs = ap (λ (o : Outcome). o .lent .programs) loads;
+        functions = f ∙ ap (λ (m : ℕ). flatRows (zs .1 .1 .1 .1 .1 .1 .0) ++ dropped (m * 7) (x₉ .now)) (e ∙ length-replicate n z) ∙ ap (λ (l : List Function). flatRows l ++ dropped (n * 7) (x₉ .now)) (ap (λ (o : Outcome). o .lent .functions) loads);
+        maps = ap (λ (o : Outcome). o .lent .maps) loads;
+        relocations = ap (λ (o : Outcome). o .lent .relocations) loads;
+        bytes = ap (λ (o : Outcome). o .lent .bytes) loads;
       }
 
   module _ (N : ℕ) (most : n ≤ N) (room : Room T.the-row n) (C : Calls 𝓤 H) (Λ : Loops 𝓤 H) (fm : FmC 𝓤 H (W .laws) C) (known-load : Triple 𝓤 (C #load) (Load 𝓤 H A mem run)) (known-store : Triple 𝓤 (C #store-rows) (Store 𝓤 H A mem run)) where

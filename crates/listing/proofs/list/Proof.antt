@@ -8,7 +8,8 @@ use denote.Ref.{now}
 use lib.ListN.{length}
 use Rattle.model.specs.declared.Answer.{Answer}
 use Rattle.model.specs.Bytes.{AllBytes}
-use Rattle.model.specs.Lent.{Room, loadOf}
+use Rattle.model.specs.Lent.{loadOf}
+use Rattle.model.specs.declared.Room.{Room}
 use Rattle.model.specs.Listing.{refusalText, listingOf}
 use Rattle.encoding.specs.Code.{all-bytes}
 use Rattle.listing.specs.Numbers.{roomOf, flat-of}

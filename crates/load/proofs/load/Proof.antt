@@ -28,7 +28,7 @@ use denote.Array.{Array, arrayVal, array-typed}
 use denote.Builtin.{u8, u32, u64}
 use denote.Plain.{Boolean, bool-vals, bool-tells, uint-vals, uint-tells, uint-makes, uint-lawful}
 use denote.Ref.{RefT}
-use denote.Slice.{sliceVal, MutSlice, ShrSlice, Room as Fits, finally, slice-vals, mut-slice-tells, shr-slice-tells, shr-slice-copy}
+use denote.Slice.{sliceVal, MutSlice, ShrSlice, Room, finally, slice-vals, mut-slice-tells, shr-slice-tells, shr-slice-copy}
 use denote.Signature.{plain, shrSliceOf}
 use denote.Lend.{Held}
 use denote.Steps.{peeks, heard, nothing}
@@ -42,10 +42,11 @@ use denote.Triple.Walked.{says, Stays, gave-slice, stay-dropped, walkOf, goes-ga
 use denote.Exit.{yes}
 use Rattle.model.specs.declared.Answer.{Answer}
 use Rattle.model.specs.declared.Function.{Function}
-use Rattle.model.specs.Lent.{Room, Outcome, outcome, loadOf}
+use Rattle.model.specs.declared.Room.{Room as LentRoom}
+use Rattle.model.specs.Lent.{Outcome, outcomeIn, loadOf}
 use Rattle.object_view.specs.declared.Opened.{Opened}
 use Rattle.deposit.specs.Open.{openedOf}
-use Rattle.load_core.specs.Done.{lentRoom, Open, verdictIn}
+use Rattle.load_object.specs.Done.{lentRoom, Open, verdictIn}
 use Rattle.load_core.specs.Core.{open-deposit, deposit-outcome}
 use Rattle.load.specs.Loads.{Loads}
 use Rattle.load.proofs.Shared.{shares-all}
@@ -85,9 +86,9 @@ module _ {M : Type 1} (𝓤 : URA M) (H : Heap 𝓤) (A : Atoms 𝓤) (mem : Mem
 
 module _ {M : Type 1} (𝓤 : URA M) (H : Heap 𝓤) (A : Atoms 𝓤) (W : Given 𝓤 H A) (mem : Memory → SProp 𝓤) (run : Routine → Fun 𝓤)
     (κ₁ κ₂ κ₃ κ₅ κ₆ κ₇ κ₈ κ₉ κ₁₀ : Lft) (q₁ q₂ q₃ q₅ q₆ q₇ q₈ q₉ q₁₀ : Share) (x₁ : RefT (List ℕ)) (x₂ : RefT (List ℕ)) (x₃ : RefT (List ℕ)) (on : Bool) (x₅ : RefT (List ℕ)) (x₆ : RefT (List ℕ)) (x₇ : RefT (List Function)) (x₈ : RefT (List ℕ)) (x₉ : RefT (List ℕ)) (x₁₀ : RefT (List ℕ))
-    (g₁ : Fits u8 (length (x₁ .now))) (g₂ : Fits u64 (length (x₂ .now))) (g₃ : Fits u8 (length (x₃ .now))) (g₅ : Fits u64 (length (x₅ .now))) (g₆ : Fits u64 (length (x₆ .now))) (g₇ : Fits T.the-row (length (x₇ .now))) (g₈ : Fits u64 (length (x₈ .now))) (g₉ : Fits u64 (length (x₉ .now))) (g₁₀ : Fits u8 (length (x₁₀ .now))) where
-  abbrev lent : Room
-  lent = lentRoom (length (x₅ .now)) (length (x₆ .now)) (length (x₇ .now)) (length (x₈ .now)) (length (x₉ .now)) (length (x₁₀ .now))
+    (g₁ : Room u8 (length (x₁ .now))) (g₂ : Room u64 (length (x₂ .now))) (g₃ : Room u8 (length (x₃ .now))) (g₅ : Room u64 (length (x₅ .now))) (g₆ : Room u64 (length (x₆ .now))) (g₇ : Room T.the-row (length (x₇ .now))) (g₈ : Room u64 (length (x₈ .now))) (g₉ : Room u64 (length (x₉ .now))) (g₁₀ : Room u8 (length (x₁₀ .now))) where
+  abbrev lengths : LentRoom
+  lengths = lentRoom (length (x₅ .now)) (length (x₆ .now)) (length (x₇ .now)) (length (x₈ .now)) (length (x₉ .now)) (length (x₁₀ .now))
 
   abbrev Toks : Item 𝓤
   Toks = ‵ (flft κ₁ q₁) ⊛ ‵ (flft κ₂ q₂) ⊛ ‵ (flft κ₃ q₃) ⊛ ‵ (flft κ₅ q₅) ⊛ ‵ (flft κ₆ q₆) ⊛ ‵ (flft κ₇ q₇) ⊛ ‵ (flft κ₈ q₈) ⊛ ‵ (flft κ₉ q₉) ⊛ ‵ (flft κ₁₀ q₁₀) ⊛ ‵ ftrue
@@ -101,7 +102,7 @@ module _ {M : Type 1} (𝓤 : URA M) (H : Heap 𝓤) (A : Atoms 𝓤) (W : Given
   abbrev Post : Val → SProp 𝓤
   Post = walkOf 𝓤 H A f.ended stayed (f.clauses 𝓤 H A mem run) .post at
 
-  exits : (r : Answer) (w : Val) (z₅ : List ℕ) (z₆ : List ℕ) (z₇ : List Function) (z₈ : List ℕ) (z₉ : List ℕ) (z₁₀ : List ℕ) → Loads (loadOf (x₁ .now) (x₂ .now) (x₃ .now) on lent) r z₅ z₆ z₇ z₈ z₉ z₁₀ → length z₅ ≡ length (x₅ .now) → length z₆ ≡ length (x₆ .now) → length z₇ ≡ length (x₇ .now) → length z₈ ≡ length (x₈ .now) → length z₉ ≡ length (x₉ .now) → length z₁₀ ≡ length (x₁₀ .now)
+  exits : (r : Answer) (w : Val) (z₅ : List ℕ) (z₆ : List ℕ) (z₇ : List Function) (z₈ : List ℕ) (z₉ : List ℕ) (z₁₀ : List ℕ) → Loads (loadOf (x₁ .now) (x₂ .now) (x₃ .now) on lengths) r z₅ z₆ z₇ z₈ z₉ z₁₀ → length z₅ ≡ length (x₅ .now) → length z₆ ≡ length (x₆ .now) → length z₇ ≡ length (x₇ .now) → length z₈ ≡ length (x₈ .now) → length z₉ ≡ length (x₉ .now) → length z₁₀ ≡ length (x₁₀ .now)
       → ent 𝓤 (⋆ 𝓤 H A (Toks ∷ ‵ (finally u64 (x₅ .name) z₅) ∷ ‵ (finally u64 (x₆ .name) z₆) ∷ ‵ (finally T.the-row (x₇ .name) z₇) ∷ ‵ (finally u64 (x₈ .name) z₈) ∷ ‵ (finally u64 (x₉ .name) z₉) ∷ ‵ (finally u8 (x₁₀ .name) z₁₀) ∷ ‵ (F.the-row .own r (w ∷ [])) ∷ [])) (Post w)
   exits r w z₅ z₆ z₇ z₈ z₉ z₁₀ e e₅ e₆ e₇ e₈ e₉ e₁₀ =
       qed W (Toks ∷ ‵ (finally u64 (x₅ .name) z₅) ∷ ‵ (finally u64 (x₆ .name) z₆) ∷ ‵ (finally T.the-row (x₇ .name) z₇) ∷ ‵ (finally u64 (x₈ .name) z₈) ∷ ‵ (finally u64 (x₉ .name) z₉) ∷ ‵ (finally u8 (x₁₀ .name) z₁₀) ∷ ‵ (F.the-row .own r (w ∷ [])) ∷ []) ∵
@@ -146,13 +147,13 @@ module _ {M : Type 1} (𝓤 : URA M) (H : Heap 𝓤) (A : Atoms 𝓤) (W : Given
 
   -- what `load_opened` says, of what was opened
   abbrev LoadsOf : Opened → Answer → List ℕ → List ℕ → List Function → List ℕ → List ℕ → List ℕ → Type 0
-  LoadsOf o r z₅ z₆ z₇ z₈ z₉ z₁₀ = Loads (outcome lent (verdictIn (x₁ .now) [] o (x₂ .now) (x₃ .now) on)) r z₅ z₆ z₇ z₈ z₉ z₁₀
+  LoadsOf o r z₅ z₆ z₇ z₈ z₉ z₁₀ = Loads (outcomeIn lengths (verdictIn (x₁ .now) [] o (x₂ .now) (x₃ .now) on)) r z₅ z₆ z₇ z₈ z₉ z₁₀
 
   abbrev Says : Opened → Answer → Lasts → Type 0
   Says o r zs = LoadsOf o r (zs .1 .1 .1 .1 .1 .1 .0) (zs .1 .1 .1 .1 .1 .1 .1 .0) (zs .1 .1 .1 .1 .1 .1 .1 .1 .0) (zs .1 .1 .1 .1 .1 .1 .1 .1 .1 .0) (zs .1 .1 .1 .1 .1 .1 .1 .1 .1 .1 .0) (zs .1 .1 .1 .1 .1 .1 .1 .1 .1 .1 .1 .0)
 
-  of-deposit : (o : Opened) (r : Answer) (z₅ : List ℕ) (z₆ : List ℕ) (z₇ : List Function) (z₈ : List ℕ) (z₉ : List ℕ) (z₁₀ : List ℕ) → o ≡ openedOf (x₁ .now) → LoadsOf o r z₅ z₆ z₇ z₈ z₉ z₁₀ → Loads (loadOf (x₁ .now) (x₂ .now) (x₃ .now) on lent) r z₅ z₆ z₇ z₈ z₉ z₁₀
-  of-deposit o r z₅ z₆ z₇ z₈ z₉ z₁₀ e l = subst (λ (out : Outcome). Loads out r z₅ z₆ z₇ z₈ z₉ z₁₀) (deposit-outcome (x₁ .now) [] (x₂ .now) (x₃ .now) on lent) (subst (λ (p : Opened). LoadsOf p r z₅ z₆ z₇ z₈ z₉ z₁₀) e l)
+  of-deposit : (o : Opened) (r : Answer) (z₅ : List ℕ) (z₆ : List ℕ) (z₇ : List Function) (z₈ : List ℕ) (z₉ : List ℕ) (z₁₀ : List ℕ) → o ≡ openedOf (x₁ .now) → LoadsOf o r z₅ z₆ z₇ z₈ z₉ z₁₀ → Loads (loadOf (x₁ .now) (x₂ .now) (x₃ .now) on lengths) r z₅ z₆ z₇ z₈ z₉ z₁₀
+  of-deposit o r z₅ z₆ z₇ z₈ z₉ z₁₀ e l = subst (λ (out : Outcome). Loads out r z₅ z₆ z₇ z₈ z₉ z₁₀) (deposit-outcome (x₁ .now) [] (x₂ .now) (x₃ .now) on lengths) (subst (λ (p : Opened). LoadsOf p r z₅ z₆ z₇ z₈ z₉ z₁₀) e l)
 
   module _ (C : Calls 𝓤 H) (Λ : Loops 𝓤 H) (fm : FmC 𝓤 H (W .laws) C) (known-open : Triple 𝓤 (C #open) (Opens 𝓤 H A mem run)) (known-whole : Triple 𝓤 (C #load-opened) (Whole 𝓤 H A mem run)) where
     walk : ent 𝓤 (⋆ 𝓤 H A (Toks ∷ Owned ∷ [])) (WpFn 𝓤 H C Λ code.function (sliceVal (x₁ .ptr) (length (x₁ .now)) ∷ sliceVal (x₂ .ptr) (length (x₂ .now)) ∷ sliceVal (x₃ .ptr) (length (x₃ .now)) ∷ vbool on ∷ sliceVal (x₅ .ptr) (length (x₅ .now)) ∷ sliceVal (x₆ .ptr) (length (x₆ .now)) ∷ sliceVal (x₇ .ptr) (length (x₇ .now)) ∷ sliceVal (x₈ .ptr) (length (x₈ .now)) ∷ sliceVal (x₉ .ptr) (length (x₉ .now)) ∷ sliceVal (x₁₀ .ptr) (length (x₁₀ .now)) ∷ []) Post)

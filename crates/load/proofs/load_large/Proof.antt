@@ -6,7 +6,7 @@ use denote.Builtin.{u32}
 use denote.Slice.{Room}
 use denote.Triple.Spec.{tripleOf}
 use denote.Triple.Table.{entered, cited}
-use Rattle.load_core.specs.Done.{Open, few-symbols}
+use Rattle.load_object.specs.Done.{Open, few-symbols}
 use Rattle.load.proofs.Scratch.{const-big}
 use Rattle.load.proofs.Sized.{Core, Fill, sized}
 use Rattle.load_core.proofs.load_core.Symbol as core-def

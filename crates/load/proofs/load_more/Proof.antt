@@ -2,7 +2,7 @@
 use contract.Running.{givenOf, tables, tablesOf}
 use denote.Triple.Spec.{tripleOf}
 use denote.Triple.Table.{entered, cited}
-use Rattle.load_core.specs.Done.{Open}
+use Rattle.load_object.specs.Done.{Open}
 use Rattle.load.proofs.Choice.{TestAt, LoadsAt, chosen}
 use Rattle.load.proofs.Outer.{AtMost}
 use Rattle.load.proofs.is_medium.Symbol as is-medium-def

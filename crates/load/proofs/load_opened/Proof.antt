@@ -1,8 +1,8 @@
--- `load::load_opened` meets its contract: `Choice.antt`'s walk, at 256 symbols.
+-- `load::load_opened` meets its contract: `Choice.antt`'s walk, at 128 symbols.
 use contract.Running.{givenOf, tables, tablesOf}
 use denote.Triple.Spec.{tripleOf}
 use denote.Triple.Table.{entered, cited}
-use Rattle.load_core.specs.Done.{Open}
+use Rattle.load_object.specs.Done.{Open}
 use Rattle.load.proofs.Choice.{TestAt, LoadsAt, chosen}
 use Rattle.load.proofs.Outer.{AtMost}
 use Rattle.load.proofs.is_small.Symbol as is-small-def
@@ -24,7 +24,7 @@ unfolding code.routine tablesOf
 load-opened-spec 𝓤 H 𝓜 𝓖 𝓡 =
     entered 𝓤 H (tripleOf 𝓤 H (𝓖 .A) load′.signature (load′.spec 𝓤 H (𝓖 .A) (𝓜 .mem) (𝓡 .run)))
     (tables 𝓤 H 𝓜 𝓡 code.env .C) (tables 𝓤 H 𝓜 𝓡 code.env .Λ) #load-opened code.function (code.unfolded 𝓤 H 𝓜 𝓡)
-    (chosen 𝓤 H (𝓖 .A) (givenOf 𝓤 H 𝓜 𝓖) 256 #is-small #load-small #load-more (tablesOf 𝓤 H 𝓜 (tables 𝓤 H 𝓜 𝓡 code.env))
-    (cited 𝓤 H (TestAt 𝓤 H (𝓖 .A) (givenOf 𝓤 H 𝓜 𝓖) 256) 𝓜 𝓡 code.env #is-small is-small-def.routine code.calls-load·is-small (is-small-thm.met 𝓤 H 𝓜 𝓖 𝓡))
-    (cited 𝓤 H (LoadsAt 𝓤 H (𝓖 .A) (givenOf 𝓤 H 𝓜 𝓖) (AtMost 256)) 𝓜 𝓡 code.env #load-small load-small-def.routine code.calls-load·load-small (load-small-thm.met 𝓤 H 𝓜 𝓖 𝓡))
+    (chosen 𝓤 H (𝓖 .A) (givenOf 𝓤 H 𝓜 𝓖) 128 #is-small #load-small #load-more (tablesOf 𝓤 H 𝓜 (tables 𝓤 H 𝓜 𝓡 code.env))
+    (cited 𝓤 H (TestAt 𝓤 H (𝓖 .A) (givenOf 𝓤 H 𝓜 𝓖) 128) 𝓜 𝓡 code.env #is-small is-small-def.routine code.calls-load·is-small (is-small-thm.met 𝓤 H 𝓜 𝓖 𝓡))
+    (cited 𝓤 H (LoadsAt 𝓤 H (𝓖 .A) (givenOf 𝓤 H 𝓜 𝓖) (AtMost 128)) 𝓜 𝓡 code.env #load-small load-small-def.routine code.calls-load·load-small (load-small-thm.met 𝓤 H 𝓜 𝓖 𝓡))
     (cited 𝓤 H (LoadsAt 𝓤 H (𝓖 .A) (givenOf 𝓤 H 𝓜 𝓖) Open) 𝓜 𝓡 code.env #load-more load-more-def.routine code.calls-load·load-more (load-more-thm.met 𝓤 H 𝓜 𝓖 𝓡)))

@@ -1,4 +1,4 @@
--- `load::load_small` meets its contract: `Sized.antt`'s walk at 256.
+-- `load::load_small` meets its contract: `Sized.antt`'s walk at 128.
 use lib.Dec.{lit<}
 use mir.Syntax.{w64, int}
 use contract.Running.{givenOf, tables, tablesOf}
@@ -20,7 +20,7 @@ use Rattle.load.proofs.load_small as load′
 use Rattle.load.proofs.load_small.Statement as stated
 use Rattle.load.proofs.load_small.Code as code
 
-room : Room u32 256
+room : Room u32 128
 room = (lit< tt, lit< tt)
 
 pub load-small-spec : {M : Type 1} → stated.statement M
@@ -28,6 +28,6 @@ unfolding code.routine tablesOf
 load-small-spec 𝓤 H 𝓜 𝓖 𝓡 =
     entered 𝓤 H (tripleOf 𝓤 H (𝓖 .A) load′.signature (load′.spec 𝓤 H (𝓖 .A) (𝓜 .mem) (𝓡 .run)))
     (tables 𝓤 H 𝓜 𝓡 code.env .C) (tables 𝓤 H 𝓜 𝓡 code.env .Λ) #load-small code.function (code.unfolded 𝓤 H 𝓜 𝓡)
-    (sized 𝓤 H (𝓖 .A) (givenOf 𝓤 H 𝓜 𝓖) (𝓜 .mem) (𝓡 .run) 256 room (int w64 256) (const-int 𝓤 H 256 tt) (AtMost 256) (λ d t o asked. asked) (tablesOf 𝓤 H 𝓜 (tables 𝓤 H 𝓜 𝓡 code.env))
+    (sized 𝓤 H (𝓖 .A) (givenOf 𝓤 H 𝓜 𝓖) (𝓜 .mem) (𝓡 .run) 128 room (int w64 128) (const-int 𝓤 H 128 tt) (AtMost 128) (λ d t o asked. asked) (tablesOf 𝓤 H 𝓜 (tables 𝓤 H 𝓜 𝓡 code.env))
     (cited 𝓤 H (Core 𝓤 H (𝓖 .A) (𝓜 .mem) (𝓡 .run)) 𝓜 𝓡 code.env #load-core core-def.routine code.calls-load-core·load-core (core-thm.met 𝓤 H 𝓜 𝓖 𝓡))
     (cited 𝓤 H (Fill 𝓤 H (𝓖 .A) (𝓜 .mem) (𝓡 .run)) 𝓜 𝓡 code.env #fill fill-def.routine code.calls-function-table·fill (fill-thm.met 𝓤 H 𝓜 𝓖 𝓡)))

@@ -166,9 +166,9 @@ load-sized-load-medium-requires : (t : ℕ) → load-sized-lts.Need-load-medium-
 load-sized-load-medium-requires t c κs =
     let m = c .before .before .before .before .before .before in
     let z = m .before .before .before .before .before .before .before .before .before .before .before .before .before .before in
-    let f = few-both (z .args .v) 4096 (m .before .few .result) (m .before .few .ensures) (m .if3 .taken) in
+    let f = few-both (z .args .v) 2048 8192 (m .before .few .result) (m .before .few .ensures) (m .if3 .taken) in
     let p = z .pre .1 in
-    (f .0, f .1, p .0, p .1, p .2, p .3)
+    (f .0, f .1, p .0, p .1)
 
 load-sized-same-length-7 : (t : ℕ) → load-sized-lts.Need-same-length-7 (
   load-large-reads.Asked,
@@ -297,9 +297,9 @@ load-sized-load-small-requires : (t : ℕ) → load-sized-lts.Need-load-small-re
 load-sized-load-small-requires t c κs =
     let m = c .before .before .before .before .before .before in
     let z = m .before .before .before .before .before .before .before .before .before .before .before .before .before .before in
-    let f = few-both (z .args .v) 512 (m .before .few2 .result) (m .before .few2 .ensures) (m .if4 .taken) in
+    let f = few-both (z .args .v) 128 512 (m .before .few2 .result) (m .before .few2 .ensures) (m .if4 .taken) in
     let p = z .pre .1 in
-    (f .0, f .1, p .0, p .1, p .2, p .3)
+    (f .0, f .1, p .0, p .1)
 
 load-sized-same-length-13 : (t : ℕ) → load-sized-lts.Need-same-length-13 (
   load-large-reads.Asked,

@@ -28,7 +28,7 @@ size-requires-3 c κs = search needs
 returns-2 : tie.Need-returns-2
 returns-2 c =
     let a = c .before .before .before .before .args in
-    rw (le-leb (a .v .sections + a .v .symbols) (a .n) (omega arith)) (ap (λ (k : ℕ). leb k (a .n)) (c .size3 .ensures .0))
+    rw (le-leb (a .v .sections + a .v .symbols) (a .n) (omega arith)) (ap (λ (k : ℕ). leb k (a .r)) (c .size3 .ensures .0))
 
 pub few-spec : {M : Type 1} → statement M
 few-spec =

@@ -1,9 +1,15 @@
 -- `load_core::load_core` meets its contract.
-use mathlib.Core.Path.{refl}
+use mathlib.Core.Path.{ap}
+use mathlib.Core.List.{[]}
 use native.Mathlib.Omega.{arith}
 use denote.Ref.{now}
+use lib.ListN.{length}
+use Rattle.model.specs.Lent.{outcomeIn}
+use Rattle.model.specs.declared.Room.{Room}
 use Rattle.tables.specs.Parsed.{lent-length}
-use Rattle.load_core.specs.Core.{open-view, back-done, opened-done}
+use Rattle.load_object.specs.Core.{refused-loads}
+use Rattle.load_object.specs.Done.{lentRoom, verdictIn}
+use Rattle.load_core.specs.Core.{open-view, opened-loads}
 use borrow.Author.Needs.{needs}
 use Rattle.load_core.proofs.load_core.Statement.{statement}
 use Rattle.load_core.proofs.load_core.Tie as tie
@@ -38,12 +44,8 @@ load-sized-requires c κs =
     let z = c .before .before .before .before .before .before .before .before .before .before .before .before .before .before .before .before .before .before .before .before in
     let a = z .args in
     let v = c .before .before .before .before .before .before .before .before .opened2 .given in
-    let room = rw (v .1) at (z .pre .1) in (
-      open-view (now (a .d)) (now (a .t)) (a .opened) (v .0 .0) (z .pre .0) (v .1),
-      lent-length (now (a .order)) _ _ (c .before .before .before .before .before .before .size .ensures .0) room,
-      record { sections = refl; programs = refl; maps = refl; relocations = refl; bytes = refl },
-      omega arith,
-    )
+    let room = rw (v .1) at (z .pre .1) in
+    (open-view (now (a .d)) (now (a .t)) (a .opened) (v .0 .0) (z .pre .0) (v .1), lent-length (now (a .order)) _ _ (c .before .before .before .before .before .before .size .ensures .0) room)
 
 same-length : tie.Need-same-length
 same-length c = search needs
@@ -64,8 +66,10 @@ returns : tie.Need-returns
 returns c =
     let a = c .before .before .before .before .before .before .before .before .before .before .before .before .before .before .before .before .before .before .before .before .before .before .before .before .before .before .before .before .before .args in
     let q = c .before .before .before .before .before .before .before .before .before .before .before .before .before .before .before .before .before .opened .given in
-    let e = c .before .before .before .before .before .before .before .before .before .before .refuse .ensures in
-    back-done (now (a .d)) (now (a .t)) (a .opened) (now (a .entries)) (now (a .patches)) (a .rewrite) (a .room) (now (a .sections)) (now (a .programs)) (now (a .maps)) (now (a .relocations)) (now (a .bytes)) _ _ _ _ _ (now (a .order)) (e .1) (q .0 .0) _ (q .1) (e .0)
+    let k = c .before .before .before .before .before .before .before .before .before .before .refuse in
+    let room : Room = record { sections = length (now (a .sections)); programs = length (now (a .programs)); functions = a .rows; maps = length (now (a .maps)); relocations = length (now (a .relocations)); bytes = length (now (a .bytes)) } in
+    refused-loads (now (a .d)) (now (a .t)) room (k .last .1 .0) (k .last .1 .1 .0) (k .last .1 .1 .1 .0) (k .last .1 .1 .1 .1 .0) (k .last .1 .1 .1 .1 .1 .0) [] (q .0 .0) _ (k .result)
+    (ap (λ o. outcomeIn room (verdictIn (now (a .d)) (now (a .t)) o (now (a .entries)) (now (a .patches)) (a .rewrite))) (q .1)) (k .ensures .0) (k .ensures .1) (k .ensures .2) (k .ensures .3) (k .ensures .4) (k .ensures .5) (now (a .order))
 
 same-length-6 : tie.Need-same-length-6
 same-length-6 c = search needs
@@ -89,7 +93,9 @@ returns-2 : tie.Need-returns-2
 returns-2 c =
     let a = c .before .before .before .before .before .before .before .before .before .before .before .before .before .before .before .before .before .before .before .before .before .before .before .before .before .before .before .before .before .before .before .before .before .args in
     let q = c .before .before .before .before .before .before .before .before .before .before .before .before .before .before .before .before .before .before .before .before .before .opened2 .given in
-    opened-done (now (a .d)) (now (a .t)) (a .opened) (now (a .entries)) (now (a .patches)) (a .rewrite) (a .room) (now (a .sections)) (now (a .programs)) (now (a .maps)) (now (a .relocations)) (now (a .bytes)) _ _ _ _ _ _ _ (q .0 .0) _ (q .1) (c .before .before .before .before .before .before .before .before .before .before .before .before .load-sized .ensures)
+    let k = c .before .before .before .before .before .before .before .before .before .before .before .before .load-sized in
+    opened-loads (now (a .d)) (now (a .t)) (a .opened) (now (a .entries)) (now (a .patches)) (a .rewrite) (a .rows)
+    (lentRoom (length (now (a .sections))) (length (now (a .programs))) (a .rows) (length (now (a .maps))) (length (now (a .relocations))) (length (now (a .bytes)))) (q .0 .0) (k .result) (k .last .1 .1 .1 .1 .1 .1 .1 .0) (k .last .1 .1 .1 .1 .1 .1 .1 .1 .0) (k .last .1 .1 .1 .1 .1 .1 .1 .1 .1 .0) (k .last .1 .1 .1 .1 .1 .1 .1 .1 .1 .1 .0) (k .last .1 .1 .1 .1 .1 .1 .1 .1 .1 .1 .1 .0) (k .last .1 .1 .1 .1 .1 .1 .1 .1 .1 .1 .1 .1 .0) _ (q .1) (k .ensures)
 
 pub load-core-spec : {M : Type 1} → statement M
 load-core-spec =

@@ -8,42 +8,31 @@ use borrow.Author.Needs.{needs}
 use Rattle.load_core.proofs.load_medium.Statement.{statement}
 use Rattle.load_core.proofs.load_medium.Tie as tie
 
-slice-aggregate-load-opened : tie.Need-slice-aggregate-load-opened
-slice-aggregate-load-opened c = search needs
+slice-aggregate-load-object : tie.Need-slice-aggregate-load-object
+slice-aggregate-load-object c = search needs
 
-slice-aggregate-load-opened-2 : tie.Need-slice-aggregate-load-opened-2
-slice-aggregate-load-opened-2 c = search needs
+slice-aggregate-load-object-2 : tie.Need-slice-aggregate-load-object-2
+slice-aggregate-load-object-2 c = search needs
 
-slice-aggregate-load-opened-3 : tie.Need-slice-aggregate-load-opened-3
-slice-aggregate-load-opened-3 c = search needs
+slice-aggregate-load-object-3 : tie.Need-slice-aggregate-load-object-3
+slice-aggregate-load-object-3 c = search needs
 
-slice-aggregate-load-opened-4 : tie.Need-slice-aggregate-load-opened-4
-slice-aggregate-load-opened-4 c = search needs
+slice-aggregate-load-object-4 : tie.Need-slice-aggregate-load-object-4
+slice-aggregate-load-object-4 c = search needs
 
-slice-aggregate-load-opened-5 : tie.Need-slice-aggregate-load-opened-5
-slice-aggregate-load-opened-5 c = search needs
+slice-aggregate-load-object-5 : tie.Need-slice-aggregate-load-object-5
+slice-aggregate-load-object-5 c = search needs
 
-slice-aggregate-load-opened-6 : tie.Need-slice-aggregate-load-opened-6
-slice-aggregate-load-opened-6 c = search needs
-
-slice-aggregate-load-opened-7 : tie.Need-slice-aggregate-load-opened-7
-slice-aggregate-load-opened-7 c = search needs
-
-slice-aggregate-load-opened-8 : tie.Need-slice-aggregate-load-opened-8
-slice-aggregate-load-opened-8 c = search needs
-
-load-opened-requires : tie.Need-load-opened-requires
-load-opened-requires c κs =
-    let z = c .before .before .before .before .before .before .before .before .before .before .before .before .before .before .before .before .before .before .before .before .before .before .before .before in
+load-object-requires : tie.Need-load-object-requires
+load-object-requires c κs =
+    let z = c .before .before .before .before .before .before .before .before .before .before .before .before .before .before .before .before .before .before .before .before .before in
     let a = z .args in
     let r = z .pre .2 in
-    let i : a .v .sections + a .v .symbols ≤ 4096 = z .pre .0 in
-    let j : a .v .relocations ≤ 4096 = z .pre .1 in (
+    let i : a .v .sections + a .v .symbols ≤ 2048 = z .pre .0 in
+    let j : a .v .relocations ≤ 8192 = z .pre .1 in (
       r,
-      scratch-of (a .v) _ _ (now (a .f)) _ _ _ _ _ _ 4096 4096 4096 4096 4096 4096 4096 4096 (length-replicate {A = ℕ} 4096 0) (length-replicate {A = ℕ} 4096 0) (length-replicate {A = ℕ} 4096 0) (length-replicate {A = ℕ} 4096 0) (length-replicate {A = ℕ} 4096 0) (length-replicate {A = ℕ} 4096 0) (length-replicate {A = ℕ} 4096 0) (length-replicate {A = ℕ} 4096 0) (z .pre .3) (r .few-symbols)
-          (omega arith, omega arith, omega arith, omega arith, omega arith, omega arith, omega arith, omega arith, omega arith, omega arith, omega arith, omega arith, omega arith),
-      z .pre .4,
-      z .pre .5,
+      scratch-of (a .v) _ _ (now (a .f)) _ _ _ 2048 2048 2048 8192 8192 (length-replicate {A = ℕ} 2048 0) (length-replicate {A = ℕ} 2048 0) (length-replicate {A = ℕ} 2048 0) (length-replicate {A = ℕ} 8192 0) (length-replicate {A = ℕ} 8192 0) (z .pre .3) (r .few-symbols)
+          (omega (arith, i, j), omega (arith, i, j), omega (arith, i, j), omega (arith, i, j), omega (arith, i, j), omega (arith, i, j), omega (arith, i, j), omega (arith, i, j), omega (arith, i, j), omega (arith, i, j), omega (arith, i, j)),
     )
 
 same-length : tie.Need-same-length
@@ -71,15 +60,12 @@ pub load-medium-spec : {M : Type 1} → statement M
 load-medium-spec =
     tie.close
     (tie.spec
-    slice-aggregate-load-opened
-    slice-aggregate-load-opened-2
-    slice-aggregate-load-opened-3
-    slice-aggregate-load-opened-4
-    slice-aggregate-load-opened-5
-    slice-aggregate-load-opened-6
-    slice-aggregate-load-opened-7
-    slice-aggregate-load-opened-8
-    load-opened-requires
+    slice-aggregate-load-object
+    slice-aggregate-load-object-2
+    slice-aggregate-load-object-3
+    slice-aggregate-load-object-4
+    slice-aggregate-load-object-5
+    load-object-requires
     same-length
     same-length-2
     same-length-3

@@ -2,7 +2,8 @@
 use Rattle.sections.specs.Pass.{refused-licence, refused-version, refused-sections}
 use Rattle.text.specs.Parsed.{checked-fine, checked-refused}
 use Rattle.first_checks.specs.Targets.{NextOf, next-of}
-use native.Mathlib.Omega.{arith}
+use Prim.Native.Nat.{_-_}
+use lib.Seq.{length-front}
 use mathlib.Core.Path.{sym, _∙_}
 use denote.Ref.{now}
 use borrow.Author.Needs.{needs}
@@ -12,17 +13,29 @@ use Rattle.sections.proofs.parse_object.Tie as tie
 next-untargeted-requires : tie.Need-next-untargeted-requires
 next-untargeted-requires c κs = search needs
 
+size-requires : tie.Need-size-requires
+size-requires c κs = search needs
+
+sub-by-section : tie.Need-sub-by-section
+sub-by-section c = search needs
+
+part-by-section-start : tie.Need-part-by-section-start
+part-by-section-start c = search needs
+
+part-by-section-end : tie.Need-part-by-section-end
+part-by-section-end c = search needs
+
 by-section-requires : tie.Need-by-section-requires
 by-section-requires c κs = search needs
 
-next-known : (c : tie.After-next-untargeted) → (let a = c .before .before .before .before .before .before .before .before .before .before .before .before .args in NextOf (now (a .d)) (now (a .t)) (a .v) (c .next-untargeted .last .1 .1 .1 .0))
+next-known : (c : tie.After-next-untargeted) → (let a = c .before .before .before .before .before .before .before .before .before .before .args in NextOf (now (a .d)) (now (a .t)) (a .v) (c .next-untargeted .last .1 .1 .1 .0))
 next-known c =
-    let st = c .before .before .before .before .before .before .before .before .before .before .before .before in
+    let st = c .before .before .before .before .before .before .before .before .before .before in
     let a = st .args in
     rw (c .next-untargeted .ensures) (next-of (now (a .d)) (now (a .t)) (a .v) (now (a .next)) (st .pre .0))
 
 license-refusal-requires : tie.Need-license-refusal-requires
-license-refusal-requires c κs = let f = c .before .before .before .before .before .before .before .before .before .before in (next-known f, f .before .before .before .before .before .before .before .before .before .before .before .before .pre .8)
+license-refusal-requires c κs = let f = c .before .before .before .before .before .before .before .before .before .before .before in (next-known f, f .before .before .before .before .before .before .before .before .before .before .pre .6)
 
 enum-known-r : tie.Need-enum-known-r
 enum-known-r c = search needs
@@ -39,14 +52,14 @@ same-length-3 c = search needs
 returns : tie.Need-returns
 returns c =
     let f = c .before .before .before in
-    let a = f .before .before .before .before .before .before .before .before .before .before .before .before .before .before .before .before .before .before .before .before .before .before .before .args in
-    (f .before .before .before .before .before .before .by-section .ensures, refused-licence (now (a .d)) (now (a .t)) (a .v) _ (checked-refused _ _ (sym (f .license-refusal .ensures) ∙ c .before .r .given .1)))
+    let a = f .before .before .before .before .before .before .before .before .before .before .before .before .before .before .before .before .before .before .before .before .before .before .args in
+    refused-licence (now (a .d)) (now (a .t)) (a .v) _ (checked-refused _ _ (sym (f .license-refusal .ensures) ∙ c .before .r .given .1))
 
 enum-told : tie.Need-enum-told
 enum-told c = search needs
 
 version-refusal-requires : tie.Need-version-refusal-requires
-version-refusal-requires c κs = let f = c .before .before .before .before .before .before .before .before .before .before .before .before .before .before in (next-known f, f .before .before .before .before .before .before .before .before .before .before .before .before .pre .8)
+version-refusal-requires c κs = let f = c .before .before .before .before .before .before .before .before .before .before .before .before .before .before .before in (next-known f, f .before .before .before .before .before .before .before .before .before .before .pre .6)
 
 enum-known-r-2 : tie.Need-enum-known-r-2
 enum-known-r-2 c = search needs
@@ -64,25 +77,27 @@ returns-2 : tie.Need-returns-2
 returns-2 c =
     let v = c .before .before .before in
     let f = v .before .before .before .before in
-    let a = f .before .before .before .before .before .before .before .before .before .before .before .before .before .before .before .before .before .before .before .before .before .before .before .args in
+    let a = f .before .before .before .before .before .before .before .before .before .before .before .before .before .before .before .before .before .before .before .before .before .before .args in
     let fine = checked-fine _ (sym (f .license-refusal .ensures) ∙ v .before .before .enum-told .given .1) in
-    (f .before .before .before .before .before .before .by-section .ensures, refused-version (now (a .d)) (now (a .t)) (a .v) fine _ (checked-refused _ _ (sym (v .version-refusal .ensures) ∙ c .before .r2 .given .1)))
+    refused-version (now (a .d)) (now (a .t)) (a .v) fine _ (checked-refused _ _ (sym (v .version-refusal .ensures) ∙ c .before .r2 .given .1))
 
 enum-told-2 : tie.Need-enum-told-2
 enum-told-2 c = search needs
 
 parse-sections-requires : tie.Need-parse-sections-requires
 parse-sections-requires c κs =
-    let s = c .before .before .before .before .before .before .before .before .before .before .before .before .before .before .before .before .before .before .before .before in
-    let f = s .before .before .before .before .before in
-    let q = f .before .before .before .before .before .before .before .before .before .before .before .before .pre in
-    (next-known f, s .by-section .ensures, q .2, omega (arith, s .by-section .kept .1 .1 .1 .1 .0, q .3), q .4, q .5, q .6, q .7, q .8)
+    let s = c .before .before .before .before .before .before .before .before .before .before .before .before .before .before .before .before .before .before in
+    let f = s .before .before .before .before .before .before in
+    let st = f .before .before .before .before .before .before .before .before .before .before in
+    let q = st .pre in
+    let long = length-front (now (st .args .programs)) (s .by-section .last .1 .1 .1 .1 .0) (s .before .before .before .size .result - 0) (s .by-section .kept .1 .1 .1 .1 .0) in
+    (next-known f, s .by-section .ensures, q .2, rw long (q .3), q .4, q .5, q .6)
 
 same-length-7 : tie.Need-same-length-7
-same-length-7 c = c .before .before .before .before .before .before .before .before .before .before .before .before .before .before .before .before .before .before .before .before .before .before .before .before .before .before .before .before .before .before .before .before .before .before .before .before .before .before .next-untargeted .kept .1 .1 .1 .0
+same-length-7 c = c .before .before .before .before .before .before .before .before .before .before .before .before .before .before .before .before .before .before .before .before .before .before .before .before .before .before .before .before .before .before .before .before .before .next-untargeted .kept .1 .1 .1 .0
 
 same-length-8 : tie.Need-same-length-8
-same-length-8 c = c .before .before .before .before .before .before .before .before .before .before .before .before .before .before .before .before .before .before .before .before .before .before .before .before .before .before .before .before .before .before .before .before .before .by-section .kept .1 .1 .1 .0
+same-length-8 c = search needs
 
 same-length-9 : tie.Need-same-length-9
 same-length-9 c = search needs
@@ -96,27 +111,25 @@ same-length-11 c = search needs
 same-length-12 : tie.Need-same-length-12
 same-length-12 c = search needs
 
-same-length-13 : tie.Need-same-length-13
-same-length-13 c = search needs
-
-same-length-14 : tie.Need-same-length-14
-same-length-14 c = search needs
-
 returns-3 : tie.Need-returns-3
 returns-3 c =
-    let p = c .before .before .before .before .before .before .before .before .before .before .before .before in
-    let v = p .before .before .before .before .before .before .before .before .before .before .before in
+    let p = c .before .before .before .before .before .before .before .before in
+    let v = p .before .before .before .before .before .before .before .before .before in
     let f = v .before .before .before .before in
-    let a = f .before .before .before .before .before .before .before .before .before .before .before .before .before .before .before .before .before .before .before .before .before .before .before .args in
+    let a = f .before .before .before .before .before .before .before .before .before .before .before .before .before .before .before .before .before .before .before .before .before .before .args in
     let one = checked-fine _ (sym (f .license-refusal .ensures) ∙ v .before .before .enum-told .given .1) in
-    let two = checked-fine _ (sym (v .version-refusal .ensures) ∙ p .before .before .before .before .before .before .before .before .before .enum-told2 .given .1) in
-    (f .before .before .before .before .before .before .by-section .ensures, rw (refused-sections (now (a .d)) (now (a .t)) (a .v) one two) (p .parse-sections .ensures))
+    let two = checked-fine _ (sym (v .version-refusal .ensures) ∙ p .before .before .before .before .before .before .before .enum-told2 .given .1) in
+    rw (refused-sections (now (a .d)) (now (a .t)) (a .v) one two) (p .parse-sections .ensures)
 
 pub parse-object-spec : {M : Type 1} → statement M
 parse-object-spec =
     tie.close
     (tie.spec
     next-untargeted-requires
+    size-requires
+    sub-by-section
+    part-by-section-start
+    part-by-section-end
     by-section-requires
     license-refusal-requires
     enum-known-r
@@ -139,6 +152,4 @@ parse-object-spec =
     same-length-10
     same-length-11
     same-length-12
-    same-length-13
-    same-length-14
     returns-3)

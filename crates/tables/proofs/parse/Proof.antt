@@ -3,7 +3,6 @@ use Rattle.tables.specs.Parsed.{lent-length, parsed-refused, parsed-numb
 use lib.ListN.{length}
 use lib.Seq.{length-front}
 use Prim.Native.Nat.{_-_, _≤_}
-use mathlib.Core.Path.{_≡_}
 use native.Mathlib.Omega.{arith}
 use denote.Ref.{now}
 use borrow.Author.Needs.{needs}
@@ -22,24 +21,14 @@ part-parse-object-start c = search needs
 part-parse-object-end : tie.Need-part-parse-object-end
 part-parse-object-end c = search needs
 
-sub-parse-object-2 : tie.Need-sub-parse-object-2
-sub-parse-object-2 c = search needs
-
-part-parse-object-start-2 : tie.Need-part-parse-object-start-2
-part-parse-object-start-2 c = search needs
-
-part-parse-object-end-2 : tie.Need-part-parse-object-end-2
-part-parse-object-end-2 c = search needs
-
 parse-object-requires : tie.Need-parse-object-requires
 parse-object-requires c κs =
-    let z = c .before .before .before .before .before .before .before .before in
-    let st = z .before .before .before .before .before .before .before .before .before .before .before in
+    let z = c .before .before .before .before .before .before in
+    let st = z .before .before .before .before .before .before .before .before .before in
     let a = st .args in
     let q = st .pre in
-    let e : z .size .result ≡ a .v .symbols = z .size .ensures .0 in
-    let few : a .v .symbols ≤ length (now (a .tmp)) = omega (arith, q .4) in
-    (q .6, lent-length (now (a .symbols)) _ (a .v .symbols) e (q .5), q .7, lent-length (now (a .tmp)) _ (a .v .symbols) e few, q .0, q .1, q .2, q .3, q .8)
+    let few : a .v .symbols ≤ length (now (a .order)) = omega (arith, q .4) in
+    (q .5, lent-length (now (a .order)) _ (a .v .symbols) (z .size .ensures .0) few, q .0, q .1, q .2, q .3, q .6)
 
 enum-known-listed : tie.Need-enum-known-listed
 enum-known-listed c = search needs
@@ -49,11 +38,11 @@ enum-known-listed-2 c = search needs
 
 number-tables-requires : tie.Need-number-tables-requires
 number-tables-requires c κs =
-    let p = c .before .before .before .before .before .before .before .before .before .before .before .before .before .before .before .before .before .before .before .before .before .before .before .before in
-    let z = p .before .before .before .before .before .before .before .before .before in
-    let st = z .before .before .before .before .before .before .before .before .before .before .before in (
-      rw (c .before .before .before .before .before .before .listed2 .given .1) at (p .parse-object .ensures .1),
-      rw (length-front (now (st .args .tmp)) (p .parse-object .last .1 .1 .1 .1 .1 .1 .0) (z .size .result - 0) (p .parse-object .kept .1 .1 .1 .1 .1 .1 .0)) (st .pre .4),
+    let p = c .before .before .before .before .before .before .before .before .before .before .before .before .before .before .before .before .before .before .before .before in
+    let z = p .before .before .before .before .before .before .before in
+    let st = z .before .before .before .before .before .before .before .before .before in (
+      rw (c .before .before .before .before .before .before .listed2 .given .1) at (p .parse-object .ensures),
+      rw (length-front (now (st .args .order)) (p .parse-object .last .1 .1 .1 .1 .0) (z .size .result - 0) (p .parse-object .kept .1 .1 .1 .1 .0)) (st .pre .4),
     )
 
 same-length : tie.Need-same-length
@@ -74,17 +63,17 @@ same-length-5 c = search needs
 same-length-6 : tie.Need-same-length-6
 same-length-6 c = search needs
 
+returns : tie.Need-returns
+returns c =
+    let p = c .before .before .before .before .before .before .before .before .before .before .before .before .before .before .before in
+    let a = p .before .before .before .before .before .before .before .before .before .before .before .before .before .before .before .before .args in
+    parsed-refused (now (a .d)) (now (a .t)) (a .v) _ _ _ _ _ (rw (c .before .listed .given .1) at (p .parse-object .ensures))
+
 same-length-7 : tie.Need-same-length-7
 same-length-7 c = search needs
 
 same-length-8 : tie.Need-same-length-8
 same-length-8 c = search needs
-
-returns : tie.Need-returns
-returns c =
-    let p = c .before .before .before .before .before .before .before .before .before .before .before .before .before .before .before .before .before .before .before in
-    let a = p .before .before .before .before .before .before .before .before .before .before .before .before .before .before .before .before .before .before .before .before .args in
-    parsed-refused (now (a .d)) (now (a .t)) (a .v) _ _ _ _ _ (rw (c .before .listed .given .1) at (p .parse-object .ensures .1))
 
 same-length-9 : tie.Need-same-length-9
 same-length-9 c = search needs
@@ -98,28 +87,13 @@ same-length-11 c = search needs
 same-length-12 : tie.Need-same-length-12
 same-length-12 c = search needs
 
-same-length-13 : tie.Need-same-length-13
-same-length-13 c = search needs
-
-same-length-14 : tie.Need-same-length-14
-same-length-14 c =
-    let p = c .before .before .before .before .before .before .before .before .before .before .before .before .before .before .before .before .before .before .before .before .before .before .before .before .before .before .before .before .before .before .before .before .before .before .before in
-    let z = p .before .before .before .before .before .before .before .before .before in
-    length-front (now (z .before .before .before .before .before .before .before .before .before .before .before .args .symbols)) (p .parse-object .last .1 .1 .1 .1 .0) (z .size .result - 0) (p .parse-object .kept .1 .1 .1 .1 .0)
-
-same-length-15 : tie.Need-same-length-15
-same-length-15 c = c .before .before .before .before .before .before .before .before .before .before .before .before .before .before .before .before .before .before .before .before .before .before .before .before .before .before .before .before .before .before .before .before .before .before .before .parse-object .kept .1 .1 .1 .0
-
-same-length-16 : tie.Need-same-length-16
-same-length-16 c = search needs
-
 returns-2 : tie.Need-returns-2
 returns-2 c =
     let t = c .before .before .before .before .before .before .before .before .before .before in
     let l = t .before .before .before .before .before .before .before in
-    let p = l .before .before .before .before .before .before .before .before .before .before .before .before .before .before .before .before .before .before in
-    let a = p .before .before .before .before .before .before .before .before .before .before .before .before .before .before .before .before .before .before .before .before .args in
-    let found = rw (l .listed2 .given .1) at (p .parse-object .ensures .1) in
+    let p = l .before .before .before .before .before .before .before .before .before .before .before .before .before .before in
+    let a = p .before .before .before .before .before .before .before .before .before .before .before .before .before .before .before .before .args in
+    let found = rw (l .listed2 .given .1) at (p .parse-object .ensures) in
     parsed-numbers (now (a .d)) (now (a .t)) (a .v) _ _ _ _ (t .number-tables .result) (found .fine) (t .number-tables .ensures .0) (t .number-tables .ensures .1)
 
 pub parse-spec : {M : Type 1} → statement M
@@ -130,9 +104,6 @@ parse-spec =
     sub-parse-object
     part-parse-object-start
     part-parse-object-end
-    sub-parse-object-2
-    part-parse-object-start-2
-    part-parse-object-end-2
     parse-object-requires
     enum-known-listed
     enum-known-listed-2
@@ -143,15 +114,11 @@ parse-spec =
     same-length-4
     same-length-5
     same-length-6
+    returns
     same-length-7
     same-length-8
-    returns
     same-length-9
     same-length-10
     same-length-11
     same-length-12
-    same-length-13
-    same-length-14
-    same-length-15
-    same-length-16
     returns-2)

@@ -1,7 +1,7 @@
--- `load_core::refused` meets its contract.
+-- `load_object::refused` meets its contract.
 use borrow.Author.Needs.{needs}
-use Rattle.load_core.proofs.refused.Statement.{statement}
-use Rattle.load_core.proofs.refused.Tie as tie
+use Rattle.load_object.proofs.refused.Statement.{statement}
+use Rattle.load_object.proofs.refused.Tie as tie
 
 no-view-requires : tie.Need-no-view-requires
 no-view-requires c κs = search needs

@@ -1,9 +1,9 @@
--- `finished_bytes::clear_bytes_from` meets its contract.
+-- `image::clear_bytes_from` meets its contract.
 use denote.Ref.{now}
 use Rattle.image.specs.Filled.{tail-cleared}
 use borrow.Author.Needs.{needs}
-use Rattle.finished_bytes.proofs.clear_bytes_from.Statement.{statement}
-use Rattle.finished_bytes.proofs.clear_bytes_from.Tie as tie
+use Rattle.image.proofs.clear_bytes_from.Statement.{statement}
+use Rattle.image.proofs.clear_bytes_from.Tie as tie
 
 sub-zero8 : tie.Need-sub-zero8
 sub-zero8 c = search needs

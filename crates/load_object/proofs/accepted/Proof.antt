@@ -1,8 +1,8 @@
--- `load_core::accepted` meets its contract.
+-- `load_object::accepted` meets its contract.
 use Rattle.model.specs.declared.Answer.{Answer}
 use borrow.Author.Needs.{needs}
-use Rattle.load_core.proofs.accepted.Statement.{statement}
-use Rattle.load_core.proofs.accepted.Tie as tie
+use Rattle.load_object.proofs.accepted.Statement.{statement}
+use Rattle.load_object.proofs.accepted.Tie as tie
 
 summary-requires : tie.Need-summary-requires
 summary-requires c κs = search needs

@@ -1,17 +1,18 @@
 -- What a load of an object that was opened leaves but for the function table, and which rows that is to have.
 use mathlib.Core.Path.{_≡_}
 use mathlib.Core.Bool.{Bool}
-use mathlib.Core.List.{List}
+use mathlib.Core.List.{List, _++_}
 use Prim.Native.Nat.{ℕ, _≤_}
 use native.Mathlib.Omega.{arith}
-use Rattle.model.specs.Lent.{Room, Outcome}
+use Rattle.model.specs.Lent.{lent, Outcome, outcome}
+use Rattle.model.specs.declared.Room.{Room}
 use Rattle.model.specs.PatchList.{patchesOf}
 use Rattle.model.specs.Patching.{Verdict, refused, load}
 use Rattle.object_view.specs.declared.Opened.{Opened}
 use Rattle.records.specs.Readable.{Readable}
 use Rattle.view.specs.View.{objectIn}
 use Rattle.function_table.specs.Rows.{ReadableRows, rowsMade}
-use Rattle.load_core.specs.declared.Loaded.{Loaded}
+use Rattle.load_object.specs.declared.Loaded.{Loaded}
 
 -- the lent lengths, in the order of the tables
 abbrev pub lentRoom : ℕ → ℕ → ℕ → ℕ → ℕ → ℕ → Room
@@ -32,16 +33,13 @@ few-symbols d t (Opened.View v) r = r .few-symbols
 
 -- what a load of it decides
 abbrev pub verdictIn : List ℕ → List ℕ → Opened → List ℕ → List ℕ → Bool → Verdict
-verdictIn d t (Opened.Refused q) entries lent on = refused q
-verdictIn d t (Opened.View v) entries lent on = load (objectIn d t v) (patchesOf entries lent) on
+verdictIn d t (Opened.Refused q) entries patches on = refused q
+verdictIn d t (Opened.View v) entries patches on = load (objectIn d t v) (patchesOf entries patches) on
 
--- of the outcome o, with room for n rows of the function table: the answer, the lists of the lent tables and bytes at the end, and the record numbers
-pub record CoreDone (d t : List ℕ) (n : ℕ) (o : Outcome) (r : Loaded) (s p m l b order : List ℕ) : Type 0 where
-  pub answer : r .answer ≡ o .reply
-  pub sections : s ≡ o .lent .sections
-  pub programs : p ≡ o .lent .programs
-  pub maps : m ≡ o .lent .maps
-  pub relocations : l ≡ o .lent .relocations
-  pub bytes : b ≡ o .lent .bytes
-  pub functions : rowsMade d t order 0 (r .rows) n ≡ o .lent .functions
-  pub readable : ReadableRows d t (r .rows)
+-- of the outcome o, whose function table has n rows: the answer and what is lent, with the rows of the record numbers that a list has, and they can be read
+abbrev pub CoreDone : List ℕ → List ℕ → ℕ → Outcome → Loaded → List ℕ → List ℕ → List ℕ → List ℕ → List ℕ → List ℕ → Type 0
+CoreDone d t n o r s p m l b order = (outcome (r .answer) (lent s p (rowsMade d t order 0 (r .rows) n) m l b) ≡ o) × ReadableRows d t (r .rows)
+
+-- whatever stands behind those numbers
+abbrev pub FrontDone : List ℕ → List ℕ → ℕ → Outcome → Loaded → List ℕ → List ℕ → List ℕ → List ℕ → List ℕ → List ℕ → Type 0
+FrontDone d t n o r s p m l b order = (rest : List ℕ) → CoreDone d t n o r s p m l b (order ++ rest)

@@ -1,0 +1,3 @@
+-- An opened object loaded, but for the function table.
+pub mod Done
+pub mod Core
