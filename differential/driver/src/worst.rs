@@ -288,3 +288,38 @@ fn qsorted(records: &Records) -> Duration {
         black_box(names);
     })
 }
+
+#[cfg(test)]
+mod tests {
+    use super::*;
+
+    /// What a thread of Rust's default size has left beside the index of an ELF file.
+    const STACK: usize = (2 << 20) - (600 << 10);
+
+    #[test]
+    fn the_most_records_load_in_a_thread_of_the_default_size() {
+        let all = |_| Extent {
+            at: 0,
+            length: MOST_RECORDS as u32,
+        };
+        let mut records = relocated(MOST_SECTIONS as u32, |_| 0, all);
+        let data = own_data(&mut records);
+        for k in 0..MOST_RECORDS {
+            let name = name(&mut records, &format!("f{k}"));
+            function(&mut records, name, 8 * k as u64, 8);
+        }
+        records.sections[0].bytes = data;
+        let case = List(1, "f7", 0).lent_to(case(deposit::lay_out(&records)));
+        let load = move || {
+            let mut lent = ours::filled(&ROOM, 0);
+            ours::load_into(&case, &mut lent)
+        };
+        let thread = std::thread::Builder::new().stack_size(STACK);
+        let answer = thread.spawn(load).unwrap().join().unwrap();
+        assert!(!matches!(answer, Answer::Refused(r) if r.number < 4));
+    }
+
+    fn own_data(records: &mut Records) -> Extent {
+        data(records, &vec![0x95; 8 * MOST_RECORDS])
+    }
+}
