@@ -3,25 +3,28 @@ use mathlib.Core.Path.{_≡_, refl, sym, ap, _∙_}
 use mathlib.Core.Bool.{Bool, true, false, not, _&&_}
 use mathlib.Core.List.{List, [], _∷_}
 use mathlib.Core.Logic.{⊎-elim}
-use Prim.Native.Nat.{ℕ, zero, suc, _+_, _<_, _≤_}
+use Prim.Native.Nat.{ℕ, zero, suc, _+_, _<_, _≤_, min}
 use native.Mathlib.Nat.{not-suc-le-zero, le-of-suc-le-suc, eq-or-lt-of-le}
 use native.Mathlib.Numerals.{add-one}
 use native.Mathlib.Omega.{arith}
-use borrow.Author.Tests.{not-true, ltb-true, ltb-false}
-use lib.Dec.{ltb}
+use borrow.Author.Tests.{not-true, ltb-true, ltb-false, eqb-true, eqb-false}
+use lib.Dec.{eqb, ltb}
 use lib.ListN.{length, getD, drop, drop-of-length-le}
 use lib.Seq.{drop-cons}
 use Rattle.lists.specs.Tests.{true-not-false, both-true}
 use Rattle.object_view.specs.declared.View.{View}
+use Rattle.model.specs.declared.Extent.{Extent}
 use Rattle.model.specs.Bytes.{same, before, keep}
 use Rattle.orders.specs.declared.Ordering.{Ordering}
 use Rattle.orders.specs.Compare.{ordering, byTests}
 use Rattle.orders.specs.Keys.{same-is, before-irrefl, before-only, before-trans, after-is, same-flip}
 use Rattle.orders.specs.Sort.{Order, byKey, key-order, sorted, Ordered, sorted-ordered}
-use Rattle.plan.specs.Numbers.{upTo, keep-sorted}
+use Rattle.stream.specs.Stream.{length-bytes}
+use Rattle.records.specs.View.{gapOf, nameIn, symbolAt}
+use Rattle.plan.specs.Numbers.{upTo, keep-sorted, keep-ext}
 use Rattle.view.specs.View.{symbolFrom}
 use Rattle.keys.specs.declared.By.{By}
-use Rattle.keys.specs.Keys.{keyOf}
+use Rattle.keys.specs.Keys.{cutTo, keyOf}
 use Rattle.bearers.specs.declared.Bearer.{Bearer}
 use Rattle.bearers.specs.Bearers.{bearerOf, bearersIn}
 
@@ -184,50 +187,130 @@ module _ (key : ℕ → List ℕ) (word : List ℕ) where
       pub several : hasAt key word l r ≡ true → hasAt key word l (r + 1) ≡ true → bearerOf (keep has l) ≡ Bearer.Several
       several e g = rw (front, one-from r e, one-from (r + 1) g)
 
--- ---- symbols sorted by name
+-- ---- symbols sorted by the lengths of their names, then by their first bytes
+
+-- a word behind its length
+abbrev pub keyed : List ℕ → List ℕ
+keyed word = length word ∷ word
 
 module _ (d t : List ℕ) (v : View) where
-  abbrev pub nameOf : ℕ → List ℕ
-  nameOf = keyOf By.SymbolName d t v
+  abbrev nameAt : ℕ → Extent
+  nameAt j = symbolAt d t v j .name
 
-  -- all symbols, sorted by name
-  unfoldable pub byName : List ℕ
-  byName = sorted (byKey nameOf) (upTo (v .symbols))
+  -- a name behind its length
+  abbrev pub nameOf : ℕ → List ℕ
+  nameOf j = nameAt j .length ∷ nameIn d v (nameAt j)
+
+  -- n bytes of it
+  abbrev cutName : ℕ → ℕ → List ℕ
+  cutName n = keyOf (By.SymbolNameLength n) d t v
+
+  -- all symbols, sorted by n bytes
+  unfoldable pub byName : ℕ → List ℕ
+  byName n = sorted (byKey (cutName n)) (upTo (v .symbols))
+
+  -- all symbols, sorted by enough bytes to find a word of so many; a longer one than any name needs none
+  pub record Searchable (order : List ℕ) (size : ℕ) : Type 0 where
+    pub bytes : ℕ
+    pub enough : size ≤ 65535 → size ≤ bytes
+    pub is : order ≡ byName bytes
 
   -- all numbers, counted up and sorted
-  pub name-order : (l m : List ℕ) → l ≡ upTo (v .symbols) → m ≡ sorted (byKey nameOf) l → m ≡ byName
+  pub name-order : (n : ℕ) (l m : List ℕ) → l ≡ upTo (v .symbols) → m ≡ sorted (byKey (cutName n)) l → m ≡ byName n
   unfolding byName
-  name-order l m p q = q ∙ ap (sorted (byKey nameOf)) p
+  name-order n l m p q = q ∙ ap (sorted (byKey (cutName n))) p
 
-  pub by-name-ordered : Ordered (byKey nameOf) byName
+  by-name-ordered : (n : ℕ) → Ordered (byKey (cutName n)) (byName n)
   unfolding byName
-  by-name-ordered = sorted-ordered (byKey nameOf) (key-order nameOf) (upTo (v .symbols))
+  by-name-ordered n = sorted-ordered (byKey (cutName n)) (key-order (cutName n)) (upTo (v .symbols))
 
-  alike : (word : List ℕ) (i j : ℕ) → same word (nameOf i) ≡ true → same word (nameOf j) ≡ true → byKey nameOf i j ≡ true
-  alike word i j p q =
-      let e : nameOf j ≡ nameOf i = sym (same-is word (nameOf j) q) ∙ same-is word (nameOf i) p in
-      ap not (ap (λ k. before k (nameOf i)) e ∙ before-irrefl (nameOf i))
+  -- whether a symbol bears a word is seen by its length and by all of its bytes
+  bears-key : (word : List ℕ) (j : ℕ) → same (keyed word) (nameOf j) ≡ same word (nameIn d v (nameAt j))
+  unfolding same
+  bears-key word j = go (eqb (length word) (nameAt j .length)) (same word (nameIn d v (nameAt j))) refl refl
+    where
+      go : (a b : Bool) → eqb (length word) (nameAt j .length) ≡ a → same word (nameIn d v (nameAt j)) ≡ b → (a && b) ≡ b
+      go true b p q = refl
+      go false false p q = refl
+      go false true p q =
+          absurd (eqb-false (length word) (nameAt j .length) p (ap length (same-is word (nameIn d v (nameAt j)) q) ∙ length-bytes d (gapOf v) (v .at .names + nameAt j .at) (nameAt j .length)))
 
-  pub bearers-sorted : (word : List ℕ) → keep (λ j. same word (nameOf j)) byName ≡ bearersIn d t v word
-  unfolding byName bearersIn keyOf symbolFrom
-  bearers-sorted word = keep-sorted (byKey nameOf) (λ j. same word (nameOf j)) (alike word) (upTo (v .symbols))
+  module _ (word : List ℕ) (n : ℕ) (enough : length word ≤ n) (j : ℕ) where
+    -- as many bytes as the word has are all of a name of its length
+    cut-none : nameAt j .length ≡ length word → cutName n j ≡ nameOf j
+    unfolding keyOf cutTo
+    cut-none e = let m : min n (nameAt j .length) ≡ nameAt j .length = omega arith in rw m
 
-  -- what a look at the first two that are not before the word tells
-  module _ (word order : List ℕ) (e : order ≡ byName) (r : ℕ) (f : First nameOf word order r) where
-    pub name-ordered : Ordered (byKey nameOf) order
-    name-ordered = rw e by-name-ordered
+    before-cut : before (cutName n j) (keyed word) ≡ before (nameOf j) (keyed word)
+    unfolding keyOf before
+    before-cut = go (eqb (nameAt j .length) (length word)) refl
+      where
+        go : (b : Bool) → eqb (nameAt j .length) (length word) ≡ b → before (cutName n j) (keyed word) ≡ before (nameOf j) (keyed word)
+        go true e = ap (λ (k : List ℕ). before k (keyed word)) (cut-none (eqb-true (nameAt j .length) (length word) e))
+        go false e = rw e
 
-    kept : bearerOf (keep (λ j. same word (nameOf j)) order) ≡ bearerOf (bearersIn d t v word)
-    kept = ap bearerOf (ap (keep (λ j. same word (nameOf j))) e ∙ bearers-sorted word)
+    same-cut : same (keyed word) (cutName n j) ≡ same (keyed word) (nameOf j)
+    unfolding keyOf same
+    same-cut = go (eqb (length word) (nameAt j .length)) refl
+      where
+        go : (b : Bool) → eqb (length word) (nameAt j .length) ≡ b → same (keyed word) (cutName n j) ≡ same (keyed word) (nameOf j)
+        go true e = ap (same (keyed word)) (cut-none (sym (eqb-true (length word) (nameAt j .length) e)))
+        go false e = rw e
 
-    pub nobody-bears : hasAt nameOf word order r ≡ false → Bearer.Nobody ≡ bearerOf (bearersIn d t v word)
-    nobody-bears p = sym (nobody nameOf word order name-ordered r f p) ∙ kept
+  alike : (word : List ℕ) (n i j : ℕ) → same (keyed word) (cutName n i) ≡ true → same (keyed word) (cutName n j) ≡ true → byKey (cutName n) i j ≡ true
+  alike word n i j p q =
+      let e : cutName n j ≡ cutName n i = sym (same-is (keyed word) (cutName n j) q) ∙ same-is (keyed word) (cutName n i) p in
+      ap not (ap (λ k. before k (cutName n i)) e ∙ before-irrefl (cutName n i))
 
-    pub one-bears : hasAt nameOf word order r ≡ true → hasAt nameOf word order (r + 1) ≡ false → Bearer.One (getD order r 0) ≡ bearerOf (bearersIn d t v word)
-    one-bears p q = sym (one nameOf word order name-ordered r f p q) ∙ kept
+  bearers-sorted : (word : List ℕ) (n : ℕ) → length word ≤ n → keep (λ j. same (keyed word) (cutName n j)) (byName n) ≡ bearersIn d t v word
+  unfolding byName bearersIn symbolFrom
+  bearers-sorted word n enough =
+      keep-sorted (byKey (cutName n)) (λ j. same (keyed word) (cutName n j)) (alike word n) (upTo (v .symbols))
+      ∙ keep-ext (λ j. same (keyed word) (cutName n j)) (λ j. same word (nameIn d v (nameAt j))) (upTo (v .symbols)) (λ j. same-cut word n enough j ∙ bears-key word j)
 
-    pub several-bear : hasAt nameOf word order r ≡ true → hasAt nameOf word order (r + 1) ≡ true → Bearer.Several ≡ bearerOf (bearersIn d t v word)
-    several-bear p q = sym (several nameOf word order name-ordered r f p q) ∙ kept
+  module _ (word order : List ℕ) (s : Searchable order (length word)) (short : length word ≤ 65535) where
+    abbrev key : ℕ → List ℕ
+    key = cutName (s .bytes)
+
+    abbrev known : length word ≤ s .bytes
+    known = s .enough short
+
+    ordered : Ordered (byKey key) order
+    ordered = rw (s .is) (by-name-ordered (s .bytes))
+
+    at-cut : (i : ℕ) → before (keyAt key (keyed word) order i) (keyed word) ≡ before (keyAt nameOf (keyed word) order i) (keyed word)
+    at-cut i = before-cut word (s .bytes) known (getD order i 0)
+
+    -- what holds of the name at m holds of those in front of it, or of those behind it
+    pub names-below : (m : ℕ) → m < length order → before (keyAt nameOf (keyed word) order m) (keyed word) ≡ true
+        → (i : ℕ) → i < m + 1 → before (keyAt nameOf (keyed word) order i) (keyed word) ≡ true
+    names-below m k q i n = sym (at-cut i) ∙ all-below key (keyed word) order ordered m k (at-cut m ∙ q) i n
+
+    pub names-above : (m : ℕ) → before (keyAt nameOf (keyed word) order m) (keyed word) ≡ false
+        → (i : ℕ) → m ≤ i → i < length order → before (keyAt nameOf (keyed word) order i) (keyed word) ≡ false
+    names-above m q i n k = sym (at-cut i) ∙ all-above key (keyed word) order ordered m (at-cut m ∙ q) i n k
+
+    -- what a look at the first two that are not before the word tells
+    module _ (r : ℕ) (f : First nameOf (keyed word) order r) where
+      first-cut : First key (keyed word) order r
+      first-cut = record { within = f .within; below = λ i l. at-cut i ∙ f .below i l; above = λ i l m. at-cut i ∙ f .above i l m }
+
+      has-cut : (i : ℕ) → hasAt key (keyed word) order i ≡ hasAt nameOf (keyed word) order i
+      has-cut i = ap (λ (b : Bool). ltb i (length order) && b) (same-cut word (s .bytes) known (getD order i 0))
+
+      kept : bearerOf (keep (λ j. same (keyed word) (key j)) order) ≡ bearerOf (bearersIn d t v word)
+      kept = ap bearerOf (ap (keep (λ j. same (keyed word) (key j))) (s .is) ∙ bearers-sorted word (s .bytes) known)
+
+      pub nobody-bears : hasAt nameOf (keyed word) order r ≡ false → Bearer.Nobody ≡ bearerOf (bearersIn d t v word)
+      nobody-bears p = sym (nobody key (keyed word) order ordered r first-cut (has-cut r ∙ p)) ∙ kept
+
+      pub one-bears : hasAt nameOf (keyed word) order r ≡ true → hasAt nameOf (keyed word) order (r + 1) ≡ false
+          → Bearer.One (getD order r 0) ≡ bearerOf (bearersIn d t v word)
+      one-bears p q = sym (one key (keyed word) order ordered r first-cut (has-cut r ∙ p) (has-cut (r + 1) ∙ q)) ∙ kept
+
+      pub several-bear : hasAt nameOf (keyed word) order r ≡ true → hasAt nameOf (keyed word) order (r + 1) ≡ true
+          → Bearer.Several ≡ bearerOf (bearersIn d t v word)
+      several-bear p q = sym (several key (keyed word) order ordered r first-cut (has-cut r ∙ p) (has-cut (r + 1) ∙ q)) ∙ kept
 
 pub stands-there : (key : ℕ → List ℕ) (word l : List ℕ) (i : ℕ) → hasAt key word l i ≡ true → i < length l
 stands-there key word l i e = ltb-true i (length l) (both-true (ltb i (length l)) (same word (keyAt key word l i)) e .0)

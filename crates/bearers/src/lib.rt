@@ -1,4 +1,4 @@
-// The symbols that bear a name: none, one or several, by a binary search among all symbols sorted by name.
+// The symbols that bear a name: none, one or several, by a binary search among all symbols sorted by the lengths of their names, then by their bytes.
 ghost use mathlib.Core.Path.{_≡_};
 ghost use Prim.Native.Nat.{_^_, _<_, _≤_};
 ghost use lib.ListN.{length};
@@ -6,7 +6,7 @@ ghost use Rattle.model.specs.Bytes.{same, before};
 ghost use Rattle.orders.specs.Compare.{ordering};
 ghost use Rattle.records.specs.Readable.{Readable};
 ghost use Rattle.bearers.specs.Bearers.{bearerOf, bearersIn};
-ghost use Rattle.bearers.specs.Search.{First, hasAt, nameOf, byName};
+ghost use Rattle.bearers.specs.Search.{First, Searchable, hasAt, keyed, nameOf, byName};
 use keys::By;
 use keys::compare_name_with;
 use object_view::View;
@@ -22,29 +22,35 @@ pub enum Bearer {
     Several,
 }
 
-// All symbols sorted by name.
-pub fn by_name(d: &[u8], t: &[u32], v: View, order: &mut [u32], tmp: &mut [u32])
+// All symbols sorted by the lengths of their names, then by n bytes: as many as the longest word has that is searched for.
+pub fn by_name(d: &[u8], t: &[u32], v: View, n: u32, order: &mut [u32], tmp: &mut [u32])
     requires { ⌜ (v .symbols ≤ 65536) × (length (now order) ≡ v .symbols) × (length (now tmp) ≡ v .symbols) ⌝ }
-    ensures { λ r. ⌜ now (order .exit) ≡ byName (now (d .entry)) (now (t .entry)) v ⌝ }
+    ensures { λ r. ⌜ now (order .exit) ≡ byName (now (d .entry)) (now (t .entry)) v n ⌝ }
 {
     sort::count_up(order);
-    sort::sort(d, t, v, By::SymbolName, order, tmp);
+    sort::sort(d, t, v, By::SymbolNameLength(n), order, tmp);
 }
 
-// How the name of symbol j stands to a word.
+// How the name of symbol j stands to a word: by the lengths, and where they are the same by the bytes.
 fn compare(d: &[u8], t: &[u32], v: View, j: u32, word: &[u8]) -> Ordering
     requires { ⌜ length (now word) < 2 ^ 60 ⌝ }
-    ensures { λ r. ⌜ r ≡ ordering (nameOf (now (d .entry)) (now (t .entry)) v j) (now (word .entry)) ⌝ }
+    ensures { λ r. ⌜ r ≡ ordering (nameOf (now (d .entry)) (now (t .entry)) v j) (keyed (now (word .entry))) ⌝ }
 {
     let name = symbol_name(d, t, v, j);
-    let at = name_at(v, name);
     let n = size(name.length);
+    if n < word.len() {
+        return Ordering::Less;
+    }
+    if word.len() < n {
+        return Ordering::Greater;
+    }
+    let at = name_at(v, name);
     compare_name_with(d, records::gap(v), at, n, word)
 }
 
 fn is_before(d: &[u8], t: &[u32], v: View, j: u32, word: &[u8]) -> bool
     requires { ⌜ length (now word) < 2 ^ 60 ⌝ }
-    ensures { λ r. ⌜ r ≡ before (nameOf (now (d .entry)) (now (t .entry)) v j) (now (word .entry)) ⌝ }
+    ensures { λ r. ⌜ r ≡ before (nameOf (now (d .entry)) (now (t .entry)) v j) (keyed (now (word .entry))) ⌝ }
 {
     match compare(d, t, v, j, word) {
         Ordering::Less => true,
@@ -55,7 +61,7 @@ fn is_before(d: &[u8], t: &[u32], v: View, j: u32, word: &[u8]) -> bool
 
 fn is_same(d: &[u8], t: &[u32], v: View, j: u32, word: &[u8]) -> bool
     requires { ⌜ length (now word) < 2 ^ 60 ⌝ }
-    ensures { λ r. ⌜ r ≡ same (now (word .entry)) (nameOf (now (d .entry)) (now (t .entry)) v j) ⌝ }
+    ensures { λ r. ⌜ r ≡ same (keyed (now (word .entry))) (nameOf (now (d .entry)) (now (t .entry)) v j) ⌝ }
 {
     match compare(d, t, v, j, word) {
         Ordering::Less => false,
@@ -67,7 +73,7 @@ fn is_same(d: &[u8], t: &[u32], v: View, j: u32, word: &[u8]) -> bool
 // Whether a symbol stands at a place and bears the name.
 fn bears_at(d: &[u8], t: &[u32], v: View, order: &[u32], at: usize, word: &[u8]) -> bool
     requires { ⌜ length (now word) < 2 ^ 60 ⌝ }
-    ensures { λ r. ⌜ r ≡ hasAt (nameOf (now (d .entry)) (now (t .entry)) v) (now (word .entry)) (now (order .entry)) at ⌝ }
+    ensures { λ r. ⌜ r ≡ hasAt (nameOf (now (d .entry)) (now (t .entry)) v) (keyed (now (word .entry))) (now (order .entry)) at ⌝ }
 {
     if at < order.len() {
         is_same(d, t, v, order[at], word)
@@ -78,8 +84,8 @@ fn bears_at(d: &[u8], t: &[u32], v: View, order: &[u32], at: usize, word: &[u8])
 
 // The place of the first symbol whose name is not before the word, or how many there are.
 fn lower_bound(d: &[u8], t: &[u32], v: View, order: &[u32], word: &[u8]) -> usize
-    requires { ⌜ (now order ≡ byName (now d) (now t) v) × (length (now word) < 2 ^ 60) ⌝ }
-    ensures { λ r. ⌜ First (nameOf (now (d .entry)) (now (t .entry)) v) (now (word .entry)) (now (order .entry)) r ⌝ }
+    requires { ⌜ Searchable (now d) (now t) v (now order) (length (now word)) × (length (now word) ≤ 65535) ⌝ }
+    ensures { λ r. ⌜ First (nameOf (now (d .entry)) (now (t .entry)) v) (keyed (now (word .entry))) (now (order .entry)) r ⌝ }
 {
     let mut low: usize = 0;
     let mut high: usize = order.len();
@@ -95,7 +101,7 @@ fn lower_bound(d: &[u8], t: &[u32], v: View, order: &[u32], word: &[u8]) -> usiz
 }
 
 pub fn bearer_of(d: &[u8], t: &[u32], v: View, order: &[u32], word: &[u8]) -> Bearer
-    requires { ⌜ Readable (now d) (now t) v × (now order ≡ byName (now d) (now t) v) ⌝ }
+    requires { ⌜ Readable (now d) (now t) v × Searchable (now d) (now t) v (now order) (length (now word)) ⌝ }
     ensures { λ r. ⌜ r ≡ bearerOf (bearersIn (now (d .entry)) (now (t .entry)) v (now (word .entry))) ⌝ }
 {
     // No name is as long.

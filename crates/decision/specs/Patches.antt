@@ -17,12 +17,12 @@ use Rattle.records.specs.Readable.{Readable}
 use Rattle.map_places.specs.Places.{mapPlaces}
 use Rattle.image.specs.Tables.{all-maps}
 use Rattle.view.specs.View.{objectIn}
-use Rattle.bearers.specs.Search.{byName}
+use Rattle.patch_checks.specs.Entries.{Named}
 use Rattle.patch_checks.specs.Checks.{Sited}
 
 -- nothing is made ready for an empty list
 pub record Ready (d t : List ℕ) (v : View) (entries maps : List ℕ) (n : ℕ) (order by : List ℕ) : Type 0 where
-  pub named : 0 < length entries → order ≡ byName d t v
+  pub named : 0 < length entries → Named d t v entries order
   pub sited : 0 < length entries → Sited d t v maps n by
 
 pub no-entries : (o : Object) (ms : List Map) (entries lent : List ℕ) → length entries ≡ 0 → patchRefusal o ms 1 (patchesOf entries lent) ≡ none

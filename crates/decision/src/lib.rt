@@ -23,6 +23,7 @@ use model::Room;
 use model::SectionIndex;
 use model::SymbolIndex;
 use object_view::View;
+use patch_checks::longest_name;
 use patch_checks::patch_refusal;
 use relocation_rows::put_relocation_rows;
 use sections::Counts;
@@ -148,7 +149,8 @@ pub fn decide_patches(
         return Checked::Fine;
     }
     let y = size(v.symbols);
-    by_name(d, t, v, order, &mut by[0..y]);
+    let longest = longest_name(entries);
+    by_name(d, t, v, longest, order, &mut by[0..y]);
     maps_by_section(d, t, v, maps, n, by);
     patch_refusal(d, t, v, entries, patches, order, maps, n, by)
 }

@@ -35,7 +35,7 @@ fn patch_bytes(
     out: &mut [u8],
 )
     requires { ⌜
-        (0 < length (now entries) → PatchReady (now d) (now t) v (now order) (now by) (now rows) own)
+        (0 < length (now entries) → PatchReady (now d) (now t) v (now entries) (now order) (now by) (now rows) own)
         × (patchRefusal (objectIn (now d) (now t) v) (catalogue (now d) (now t) v .maps) 1 (patchesOf (now entries) (now patches)) ≡ none)
         × (own ≤ end)
         × (end ≤ length (now out))
@@ -83,7 +83,7 @@ pub fn finish_bytes(
         × (objectRefusal (objectIn (now d) (now t) v) ≡ none)
         × (patchRefusal (objectIn (now d) (now t) v) (catalogue (now d) (now t) v .maps) 1 (patchesOf (now entries) (now patches)) ≡ none)
         × At (catalogue (now d) (now t) v) places
-        × (0 < length (now entries) → PatchReady (now d) (now t) v (now order) (now by) (now rows) (places .own))
+        × (0 < length (now entries) → PatchReady (now d) (now t) v (now entries) (now order) (now by) (now rows) (places .own))
         × (now out ≡ filled 0 (length (now out)) (bytesOf (catalogue (now d) (now t) v)))
         ⌝ }
     ensures { λ r.

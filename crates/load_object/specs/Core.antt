@@ -161,7 +161,7 @@ image-of c a b e f = λ i. placed functionName functionCode functionRow (e i) (f
 -- for patching: symbols by name, maps by section, and their rows
 pub patch-ready : (d t : List ℕ) (v : View) → Readable d t v → objectRefusal (objectIn d t v) ≡ none → (entries maps order by rows : List ℕ) (n own : ℕ)
     → take n maps ≡ mapNumbers d t v → n ≤ length maps → own ≡ ownStart (catalogue d t v) → rows ≡ filled 0 (length rows) (imageOf (catalogue d t v) .maps)
-    → Ready d t v entries maps n order by → 0 < length entries → PatchReady d t v order by rows own
+    → Ready d t v entries maps n order by → 0 < length entries → PatchReady d t v entries order by rows own
 patch-ready d t v r ok entries maps order by rows n own e w f g k p =
     let c = catalogue d t v in
     let q : imageOf c .maps ≡ joined (placed mapName mapOwn mapRow (mapsAt c) own (mapsOf d t v maps n)) =

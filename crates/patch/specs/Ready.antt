@@ -18,9 +18,8 @@ use Rattle.plan.specs.Placed.{length-joined}
 use Rattle.view.specs.View.{objectIn}
 use Rattle.catalogue.specs.Numbers.{mapAt, mapNumbers, maps-by}
 use Rattle.records.specs.Readable.{Readable}
-use Rattle.bearers.specs.Search.{byName}
 use Rattle.map_places.specs.Places.{mapPlaces}
-use Rattle.patch_checks.specs.Entries.{countOf}
+use Rattle.patch_checks.specs.Entries.{Named, countOf}
 use Rattle.patch_checks.specs.Checks.{mapsOf, Sited, restAt, rest-all}
 use Rattle.patch.specs.Acts.{Rows, ownAfter, own-first, own-last}
 use Rattle.patch.specs.Alone.{Alone, numbers-alone}
@@ -36,9 +35,9 @@ module _ (d t : List ℕ) (v : View) where
   objectMaps = catalogueOf (objectIn d t v) .maps
 
   -- symbols by name, the maps' places by section and their rows
-  pub record Ready (order by rows : List ℕ) (own : ℕ) : Type 0 where
+  pub record Ready (entries order by rows : List ℕ) (own : ℕ) : Type 0 where
     pub sited : Sited d t v (mapNumbers d t v) mapCount by
-    pub named : order ≡ byName d t v
+    pub named : Named d t v entries order
     pub placed : Rows d t v (mapNumbers d t v) mapCount own rows
 
   -- what the object's maps own once e entries have acted

@@ -83,7 +83,7 @@ fn patch_entry(
     bytes: &mut [u8],
 )
     requires { ⌜
-        Ready (now d) (now t) v (now order) (now by) (now rows) own
+        Ready (now d) (now t) v (now entries) (now order) (now by) (now rows) own
         × (e < countOf (now entries))
         × checksAt (now d) (now t) v (now entries) (now patches) e
         × (now bytes ≡ ownAt (now d) (now t) v (now entries) (now patches) e)
@@ -119,7 +119,7 @@ pub fn patch_own(
     bytes: &mut [u8],
 )
     requires { ⌜
-        Ready (now d) (now t) v (now order) (now by) (now rows) own
+        Ready (now d) (now t) v (now entries) (now order) (now by) (now rows) own
         × (patchRefusal (objectIn (now d) (now t) v) (objectMaps (now d) (now t) v) 1 (patchesOf (now entries) (now patches)) ≡ none)
         × (now bytes ≡ each mapOwn (objectMaps (now d) (now t) v))
         ⌝ }
@@ -153,7 +153,7 @@ pub fn patch_map_data(
     bytes: &mut [u8],
 )
     requires { ⌜
-        Ready (now d) (now t) v (now order) (now by) (now rows) own
+        Ready (now d) (now t) v (now entries) (now order) (now by) (now rows) own
         × (patchRefusal (objectIn (now d) (now t) v) (objectMaps (now d) (now t) v) 1 (patchesOf (now entries) (now patches)) ≡ none)
         × (own ≤ end)
         × (end ≤ length (now bytes))

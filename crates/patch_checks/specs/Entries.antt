@@ -1,17 +1,20 @@
 -- The entries of a patch list by number, and the patches that they stand for.
 use mathlib.Core.Path.{_≡_, refl, sym, ap, _∙_}
-use mathlib.Core.Bool.{Bool, true, false, _&&_}
+use mathlib.Core.Bool.{Bool, true, false, cond, _&&_}
 use mathlib.Core.List.{List}
+use mathlib.Core.Logic.{⊎-elim}
 use Prim.Native.Nat.{ℕ, zero, suc, _+_, _-_, _*_, _/_, _<_, _≤_, min}
-use native.Mathlib.Nat.{not-suc-le-zero, le-of-suc-le-suc}
+use native.Mathlib.Nat.{not-suc-le-zero, le-of-suc-le-suc, le-trans, eq-or-lt-of-le}
 use native.Mathlib.Omega.{arith}
-use borrow.Author.Tests.{leb-true, leb-false, le-leb, lt-leb}
-use lib.Dec.{leb}
+use borrow.Author.Tests.{leb-true, leb-false, le-leb, lt-leb, ltb-true, ltb-false}
+use lib.Dec.{leb, ltb}
 use lib.ListN.{length, getD, take, drop, length-take, length-drop}
 use lib.Seq.{drop-drop, getD-take, getD-drop}
 use Rattle.lists.specs.Part.{length-part}
 use Rattle.lists.specs.Tab.{tab, is-tab}
 use Rattle.lists.specs.Tests.{both-true}
+use Rattle.object_view.specs.declared.View.{View}
+use Rattle.bearers.specs.Search.{Searchable, byName}
 use Rattle.model.specs.declared.Range.{Range}
 use Rattle.model.specs.Bytes.{part, records, inside}
 use Rattle.model.specs.Object.{Patch}
@@ -34,6 +37,39 @@ entryAt es e =
       bytes = range (getD es (5 * e + 2) 0) (getD es (5 * e + 3) 0);
       mark = getD es (5 * e + 4) 0;
     }
+
+-- the longer of a name so far and one of n bytes, unless it is longer than any name of a symbol
+unfoldable pub longer : ℕ → ℕ → ℕ
+longer bytes n = cond (ltb 65535 n) bytes (cond (ltb bytes n) n bytes)
+
+-- how many bytes the longest name of the first e entries has that a symbol may bear
+unfoldable pub longest : List ℕ → ℕ → ℕ
+longest es zero = 0
+longest es (suc e) = longer (longest es e) (entryAt es e .name .length)
+
+longer-both : (bytes n : ℕ) → (bytes ≤ longer bytes n) × (n ≤ 65535 → n ≤ longer bytes n)
+unfolding longer
+longer-both bytes n = go (ltb 65535 n) (ltb bytes n) refl refl
+  where
+    go : (a b : Bool) → ltb 65535 n ≡ a → ltb bytes n ≡ b → (bytes ≤ cond a bytes (cond b n bytes)) × (n ≤ 65535 → n ≤ cond a bytes (cond b n bytes))
+    go true b p q = let l : 65535 < n = ltb-true _ _ p in (omega arith, λ h. let no : ⊥ = omega arith in absurd no)
+    go false true p q = let l : bytes < n = ltb-true _ _ q in (omega arith, λ h. omega arith)
+    go false false p q = let l : n ≤ bytes = ltb-false _ _ q in (omega arith, λ h. omega arith)
+
+longest-most : (es : List ℕ) (k e : ℕ) → e < k → entryAt es e .name .length ≤ 65535 → entryAt es e .name .length ≤ longest es k
+unfolding longest
+longest-most es zero e h s = absurd (not-suc-le-zero h)
+longest-most es (suc k) e h s =
+    let both = longer-both (longest es k) (entryAt es k .name .length) in
+    ⊎-elim (λ q. rw q (both .1 (rw q at s))) (λ l. le-trans (longest-most es k e l s) (both .0)) (eq-or-lt-of-le (le-of-suc-le-suc h))
+
+-- all symbols, sorted so that the name of each entry is found
+abbrev pub Named : List ℕ → List ℕ → View → List ℕ → List ℕ → Type 0
+Named d t v es order = (e : ℕ) → e < countOf es → Searchable d t v order (entryAt es e .name .length)
+
+-- the longest name says how many bytes are enough
+pub all-named : (d t : List ℕ) (v : View) (es order : List ℕ) → order ≡ byName d t v (longest es (countOf es)) → Named d t v es order
+all-named d t v es order is e l = record { bytes = longest es (countOf es); enough = longest-most es (countOf es) e l; is = is }
 
 -- what an entry stands for
 unfoldable pub patchBy : List ℕ → Entry → Patch

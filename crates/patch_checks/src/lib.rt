@@ -9,8 +9,8 @@ ghost use Rattle.model.specs.Refusals.{noSection, noSymbol, ofEntry, placeRefus
 ghost use Rattle.model.specs.PatchList.{patchesOf};
 ghost use Rattle.view.specs.Checked.{checkedOf};
 ghost use Rattle.view.specs.View.{symbolIn, symbolFrom, objectIn};
-ghost use Rattle.bearers.specs.Search.{byName};
-ghost use Rattle.patch_checks.specs.Entries.{entryAt, patchBy};
+ghost use Rattle.bearers.specs.Search.{Searchable};
+ghost use Rattle.patch_checks.specs.Entries.{Named, countOf, entryAt, longer as longerOf, longest, patchBy};
 ghost use Rattle.patch_checks.specs.Checks.{past, mapsOf, Sited};
 use bearers::Bearer;
 use bearers::bearer_of;
@@ -58,6 +58,31 @@ pub fn entry_at(entries: &[u64], e: usize) -> Entry
         },
         mark: number(entries, p + 4),
     }
+}
+
+// The longer of a name so far and one of n bytes, unless it is longer than any name of a symbol.
+fn longer(so_far: u32, n: u64) -> u32
+    ensures { λ r. ⌜ r ≡ longerOf «so_far» n ⌝ }
+{
+    if n > 65535 {
+        return so_far;
+    }
+    let m = n as u32;
+    if so_far < m { m } else { so_far }
+}
+
+// How many bytes the longest name of the list has that a symbol may bear.
+pub fn longest_name(entries: &[u64]) -> u32
+    ensures { λ r. ⌜ r ≡ longest (now (entries .entry)) (countOf (now (entries .entry))) ⌝ }
+{
+    let mut e: usize = 0;
+    let mut bytes: u32 = 0;
+    while e < (entries.len() + 4) / 5 {
+        let x = entry_at(entries, e);
+        bytes = longer(bytes, x.name.length);
+        e += 1;
+    }
+    bytes
 }
 
 // Whether a range lies inside a buffer of n bytes.
@@ -174,7 +199,7 @@ fn entry_refusal(
     by: &[u32],
     e: u64,
 ) -> Checked
-    requires { ⌜ Sited (now d) (now t) v (now maps) n (now by) × (now order ≡ byName (now d) (now t) v) ⌝ }
+    requires { ⌜ Sited (now d) (now t) v (now maps) n (now by) × Searchable (now d) (now t) v (now order) (x .name .length) ⌝ }
     ensures { λ r.
         ⌜
         r
@@ -215,7 +240,7 @@ pub fn patch_refusal(
     n: usize,
     by: &[u32],
 ) -> Checked
-    requires { ⌜ Sited (now d) (now t) v (now maps) n (now by) × (now order ≡ byName (now d) (now t) v) ⌝ }
+    requires { ⌜ Sited (now d) (now t) v (now maps) n (now by) × Named (now d) (now t) v (now entries) (now order) ⌝ }
     ensures { λ r.
         ⌜
         r

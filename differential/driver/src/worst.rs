@@ -61,6 +61,8 @@ fn long_names() {
     long_named_sections(&mut all);
     let title = "65536 maps and 4095 .data sections, long names";
     ours_alone(title, &all, List(1, "x", 0));
+    let alike = of_one_length(long_named("maps", 0, 28));
+    ours_alone("65536 maps, names of one length", &alike, List(1, "x", 0));
 }
 
 fn shared_relocations(sections: u32) {
@@ -201,6 +203,18 @@ fn long_named(called: &str, mark: u32, size: u64) -> Records {
     own_section(&mut records, called, mark, &vec![0; size as usize]);
     for k in 0..MOST_RECORDS as u32 {
         function(&mut records, long_name(k, 1), 0, size);
+    }
+    records
+}
+
+/// The same records with names of the greatest length, whose runs of equal letters end at different places behind 60,000 bytes.
+fn of_one_length(mut records: Records) -> Records {
+    records.names[65_000..LONG as usize].fill(b'b');
+    for (k, symbol) in records.symbols.iter_mut().enumerate() {
+        symbol.name = Extent {
+            at: k as u32 * 40503 % 5_001,
+            length: MOST_NAME,
+        };
     }
     records
 }

@@ -23,7 +23,7 @@ returns : tie.Need-returns
 returns c =
     let s = c .before .before .before .before .before .before .before .before .before .before .before .before .before .before .before in
     let a = s .args in
-    name-order (now (a .d)) (now (a .t)) (a .v) _ _ (c .before .before .before .before .before .before .before .before .before .count-up .ensures ∙ ap upTo (s .pre .1)) (c .before .before .before .before .sort .ensures)
+    name-order (now (a .d)) (now (a .t)) (a .v) (a .n) _ _ (c .before .before .before .before .before .before .before .before .before .count-up .ensures ∙ ap upTo (s .pre .1)) (c .before .before .before .before .sort .ensures)
 
 pub by-name-spec : {M : Type 1} → statement M
 by-name-spec =

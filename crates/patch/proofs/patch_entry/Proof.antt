@@ -57,7 +57,13 @@ part-bearer-of-end : tie.Need-part-bearer-of-end
 part-bearer-of-end c = omega (arith, ranges c .0)
 
 bearer-of-requires : tie.Need-bearer-of-requires
-bearer-of-requires c κs = let s = c .before .before .before .before .before .before .before .before .before .before in (s .pre .0 .sited .readable, s .pre .0 .named)
+bearer-of-requires c κs =
+    let s = c .before .before .before .before .before .before .before .before .before .before in
+    let a = s .args in
+    let x = c .before .entry-at .result .name in
+    let q : x .at + x .length - x .at ≡ x .length = omega arith in
+    let n : length (part (now (a .patches)) (x .at) (x .length)) ≡ x .length = length-part (now (a .patches)) (x .at) (x .length) (ranges (c .before) .0) in
+    (s .pre .0 .sited .readable, rw (q, n, c .before .entry-at .ensures) (s .pre .0 .named (a .e) (s .pre .1)))
 
 enum-told : tie.Need-enum-told
 enum-told c = search needs

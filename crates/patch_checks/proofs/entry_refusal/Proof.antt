@@ -6,6 +6,9 @@ use Prim.Native.Nat.{_+_, _-_}
 use native.Mathlib.Omega.{arith}
 use borrow.Author.Tests.{not-true, not-false, eq-eqb, ne-eqb}
 use lib.Dec.{eqb}
+use lib.ListN.{length}
+use Rattle.lists.specs.Part.{length-part}
+use Rattle.model.specs.Bytes.{part}
 use Rattle.model.specs.Refusals.{entryRefusal}
 use Rattle.view.specs.Checked.{checkedOf}
 use Rattle.view.specs.View.{objectIn}
@@ -53,7 +56,15 @@ part-bearer-of-end : tie.Need-part-bearer-of-end
 part-bearer-of-end c = let a = c .before .before .before .before .before .before .before .before .before .before .args in omega (arith, lent-ranges (now (a .patches)) (a .x) (lent (c .before .before)) .0)
 
 bearer-of-requires : tie.Need-bearer-of-requires
-bearer-of-requires c κs = search needs
+bearer-of-requires c κs =
+    let z = c .before .before .before .before .before .before .before .before .before .before .before in
+    let a = z .args in
+    let x = a .x .name in
+    let e : x .at + x .length - x .at ≡ x .length = omega arith in
+    let n : length (part (now (a .patches)) (x .at) (x .length)) ≡ x .length =
+    length-part (now (a .patches)) (x .at) (x .length) (lent-ranges (now (a .patches)) (a .x) (lent (c .before .before .before)) .0)
+    in
+    (z .pre .0 .readable, rw (e, n) (z .pre .1))
 
 enum-told : tie.Need-enum-told
 enum-told c = search needs

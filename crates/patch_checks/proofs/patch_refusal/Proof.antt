@@ -33,7 +33,9 @@ add-entry : tie.Need-add-entry Inv-loop μ-loop
 add-entry c = search needs
 
 entry-refusal-requires : tie.Need-entry-refusal-requires Inv-loop μ-loop
-entry-refusal-requires c κs = search needs
+entry-refusal-requires c κs =
+    let z = c .before .before .before .before .before .before .before .before .before .before in
+    (z .pre .0, rw (c .entry-at .ensures) (z .pre .1 (c .before .before .loop .e) (omega arith)))
 
 enum-known-r : tie.Need-enum-known-r Inv-loop μ-loop
 enum-known-r c = search needs
