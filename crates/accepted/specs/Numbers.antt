@@ -138,10 +138,6 @@ module _ (d t : List ℕ) (v : View) (ok : objectRefusal (objectIn d t v) ≡ no
   rest : (maybe (firstNamed (ascii "version") (o .sections)) none (versionRefusal (o .order)) ≡ none) × (firstIn (sectionRefusal o) (o .sections) ≡ none)
   rest = orElse-none (maybe (firstNamed (ascii "version") (o .sections)) none (versionRefusal (o .order))) (firstIn (sectionRefusal o) (o .sections)) (split .1)
 
-  pub version-fine : maybe (firstNamed (ascii "version") (o .sections)) none (versionRefusal order) ≡ none
-  unfolding objectIn
-  version-fine = rest .0
-
   section-at : (i : ℕ) → i < v .sections → sectionRefusal o (sec i) ≡ none
   unfolding objectIn
   section-at i l = firstIn-none (sectionRefusal o) (sec i) (tab sec (v .sections)) (rest .1) (tab-∈ sec i (v .sections) l)

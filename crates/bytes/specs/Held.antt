@@ -9,7 +9,7 @@ use lib.ListN.{length, getD, take, drop, length-append, length-drop}
 use Rattle.object_view.specs.declared.View.{View}
 use Rattle.model.specs.Bytes.{each}
 use Rattle.model.specs.Catalogue.{Catalogue}
-use Rattle.model.specs.Contents.{licenceOf}
+use Rattle.model.specs.Contents.{licenceOf, versionOf}
 use Rattle.model.specs.Lent.{sectionName, programName, functionName, functionCode, mapName, mapOwn, bytesOf, sectionsAt, programsAt, functionsAt, codeStart, mapsAt, ownStart}
 use Rattle.model.specs.Refusals.{objectRefusal}
 use Rattle.plan.specs.Placed.{lay-more}
@@ -24,6 +24,7 @@ use Rattle.pieces.specs.Inside.{Known}
 use Rattle.pieces.specs.Pieces.{pieceOf}
 use Rattle.own.specs.Own.{ownBytes}
 use Rattle.code.specs.Code.{codeAt, AllFit}
+use Rattle.first_checks.specs.LicenceVersion.{licenseAt}
 use Rattle.sections.specs.declared.Counts.{Counts}
 use Rattle.bytes.specs.declared.Part.{Part}
 use Rattle.bytes.specs.declared.Places.{Places}
@@ -31,7 +32,7 @@ use Rattle.bytes.specs.Parts.{catalogue, licence-is, section-names, prog
 use Rattle.bytes.specs.Bounds.{all-front, all-weaken}
 use Rattle.bytes.specs.Listed.{PartFits, Listed}
 
--- the four tables, each at the front of its list
+-- the four tables, each at the front of its list; the licence and the version
 pub record Held (d t : List ℕ) (v : View) (n : Counts) (s p f m : List ℕ) : Type 0 where
   pub sections : take (n .sections) s ≡ sectionNumbers d t v
   pub programs : take (n .programs) p ≡ programNumbers d t v
@@ -45,6 +46,8 @@ pub record Held (d t : List ℕ) (v : View) (n : Counts) (s p f m : List ℕ) : 
   pub few-programs : n .programs ≤ 69632
   pub few-functions : n .functions ≤ 65536
   pub few-maps : n .maps ≤ 69632
+  pub license : n .license ≡ licenseAt d t v
+  pub version : n .version ≡ versionOf (objectIn d t v)
 
 -- where the parts begin, and where the last ends
 pub record At (c : Catalogue) (q : Places) : Type 0 where

@@ -18,6 +18,10 @@ use Rattle.first_checks.specs.Named.{numberNamed, number-below}
 use Rattle.first_checks.specs.LicenceVersion.{licenseIn, licenseAt, licenseBytes, license-bytes}
 use Rattle.records.specs.Readable.{Readable}
 
+abbrev pub licenceLength : LicenseAt → ℕ
+licenceLength LicenseAt.Gpl = 3
+licenceLength (LicenseAt.Bytes at n) = n
+
 module _ (d t : List ℕ) (v : View) where
   pub licence-gpl : LicenseAt.Gpl ≡ licenseAt d t v → licenceOf (objectIn d t v) ≡ ascii "GPL"
   licence-gpl e = sym (license-bytes d t v) ∙ ap (licenseBytes d t v) (sym e)
@@ -42,6 +46,10 @@ module _ (d t : List ℕ) (v : View) where
             let l : i < v .sections = number-below d t v (ascii "license") i f in
             let m : at + n ≤ v .at .bytes + sectionAt d t v i .bytes .at + sectionAt d t v i .bytes .length = omega arith in
             (le-trans (place-mono (gapOf v) (at + n) (v .at .bytes + sectionAt d t v i .bytes .at + sectionAt d t v i .bytes .length) m) (r .section-data i l .placed), omega (arith, r .section-data i l .short))
+
+  pub length-by-place : (l : LicenseAt) → l ≡ licenseAt d t v → licenceLength l ≡ length (licenceOf (objectIn d t v))
+  length-by-place LicenseAt.Gpl e = sym (ap length (licence-gpl e))
+  length-by-place (LicenseAt.Bytes at n) e = sym (licence-length at n e)
 
   -- no licence is longer than 16 MiB
   pub licence-short : Readable d t v → length (licenceOf (objectIn d t v)) ≤ 16777216

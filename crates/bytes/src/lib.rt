@@ -10,11 +10,12 @@ ghost use Rattle.view.specs.View.{objectIn};
 ghost use Rattle.model.specs.Lent.{bytesOf};
 ghost use Rattle.model.specs.Refusals.{objectRefusal};
 ghost use Rattle.records.specs.Readable.{Readable};
+ghost use Rattle.first_checks.specs.LicenceVersion.{licenseAt};
+ghost use Rattle.bytes.specs.Licence.{licenceLength};
 ghost use Rattle.bytes.specs.Parts.{catalogue};
 ghost use Rattle.bytes.specs.Held.{Held, At};
 ghost use Rattle.bytes.specs.Listed.{partOf, PartFits, Listed};
 use first_checks::LicenseAt;
-use first_checks::license_of;
 use lists::copy8;
 use object_view::View;
 use pieces::Piece;
@@ -109,25 +110,27 @@ fn put_part(
     o
 }
 
-fn license_length(d: &[u8], t: &[u32], v: View) -> usize
-    ensures { λ r. ⌜ r ≡ length (licenceOf (objectIn (now (d .entry)) (now (t .entry)) v)) ⌝ }
+fn license_length(license: LicenseAt) -> usize
+    ensures { λ r. ⌜ r ≡ licenceLength license ⌝ }
 {
-    match license_of(d, t, v) {
+    match license {
         LicenseAt::Gpl => 3,
         LicenseAt::Bytes(_, n) => n,
     }
 }
 
 // The licence at the front of out; where it ends.
-fn put_license(d: &[u8], t: &[u32], v: View, out: &mut [u8]) -> usize
-    requires { ⌜ Readable (now d) (now t) v × (length (licenceOf (objectIn (now d) (now t) v)) ≤ length (now out)) ⌝ }
+fn put_license(d: &[u8], t: &[u32], v: View, license: LicenseAt, out: &mut [u8]) -> usize
+    requires { ⌜
+        Readable (now d) (now t) v × (license ≡ licenseAt (now d) (now t) v) × (length (licenceOf (objectIn (now d) (now t) v)) ≤ length (now out))
+        ⌝ }
     ensures { λ r.
         ⌜
         (r ≡ length (licenceOf (objectIn (now (d .entry)) (now (t .entry)) v)))
         × (now (out .exit) ≡ licenceOf (objectIn (now (d .entry)) (now (t .entry)) v) ++ drop r (now (out .entry)))
         ⌝ }
 {
-    match license_of(d, t, v) {
+    match license {
         LicenseAt::Gpl => {
             copy8(out, b"GPL");
             3
@@ -156,7 +159,8 @@ pub fn layout(
         ⌝ }
     ensures { λ r. ⌜ At (catalogue (now (d .entry)) (now (t .entry)) v) r ⌝ }
 {
-    let sections_at = license_length(d, t, v);
+    let license = n.license;
+    let sections_at = license_length(license);
     let section_name = Part::Name(Piece::SectionName);
     let symbol_name = Part::Name(Piece::SymbolName);
     let map_name = Part::Name(Piece::MapName);
@@ -201,7 +205,8 @@ pub fn put(
         ≡ bytesOf (catalogue (now (d .entry)) (now (t .entry)) v) ++ drop (length (bytesOf (catalogue (now (d .entry)) (now (t .entry)) v))) (now (out .entry))
         ⌝ }
 {
-    let a = put_license(d, t, v, out);
+    let license = n.license;
+    let a = put_license(d, t, v, license, out);
     let section_name = Part::Name(Piece::SectionName);
     let symbol_name = Part::Name(Piece::SymbolName);
     let map_name = Part::Name(Piece::MapName);

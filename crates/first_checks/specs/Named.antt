@@ -1,18 +1,24 @@
--- The first section of a name, by its number.
+-- The first section of a name, by its number; those of the two names that are looked for.
 use mathlib.Core.Path.{_≡_, refl, sym, ap, _∙_}
 use mathlib.Core.Bool.{Bool, true, false, cond}
 use mathlib.Core.List.{List, [], _∷_, map}
 use mathlib.Core.Option.{Option, none, some}
 use Prim.Native.Nat.{ℕ, zero, suc, _+_, _<_}
+use native.Mathlib.Numerals.{add-one}
 use native.Mathlib.Omega.{arith}
+use lib.ListN.{length}
 use Rattle.lists.specs.Tab.{tab}
 use Rattle.object_view.specs.declared.View.{View}
-use Rattle.model.specs.Bytes.{same, firstIn, find, orElse, maybe}
+use Rattle.model.specs.Bytes.{ascii, same, firstIn, find, orElse, maybe}
 use Rattle.model.specs.Object.{Section}
 use Rattle.model.specs.Symbols.{firstNamed}
-use Rattle.plan.specs.Numbers.{upTo, firstIn-append, firstIn-on, firstIn-at, tab-is-map}
-use Rattle.view.specs.View.{sectionIn, objectIn}
+use Rattle.plan.specs.Numbers.{upTo, firstIn-append, tab-is-map}
+use Rattle.stream.specs.Stream.{length-bytes}
+use Rattle.names.specs.Words.{same-lengths}
+use Rattle.records.specs.View.{gapOf, nameIn, sectionAt}
+use Rattle.view.specs.View.{sectionFrom, sectionIn, objectIn}
 use Rattle.first_checks.specs.declared.Found.{Found}
+use Rattle.first_checks.specs.declared.Named.{Named}
 
 abbrev pub foundOf : Option ℕ → Found
 foundOf none = Found.Nothing
@@ -26,6 +32,22 @@ pub found-at : (o : Option ℕ) (i : ℕ) → foundOf o ≡ Found.At i → o ≡
 found-at none i e = let z : _≡_ {A = ℕ} 0 1 = cc in absurd (omega arith)
 found-at (some j) i e = let q : Found.At j ≡ Found.At i = e in cc
 
+-- what was found, else i where it passes
+unfoldable pub foundOr : Found → Bool → ℕ → Found
+foundOr (Found.At k) b i = Found.At k
+foundOr Found.Nothing b i = cond b (Found.At i) Found.Nothing
+
+found-or : (o : Option ℕ) (b : Bool) (i : ℕ) → foundOf (orElse o (cond b (some i) none)) ≡ foundOr (foundOf o) b i
+unfolding foundOr
+found-or (some k) b i = refl
+found-or none true i = refl
+found-or none false i = refl
+
+pub found-still : (f : Found) (i : ℕ) → foundOr f false i ≡ f
+unfolding foundOr
+found-still (Found.At k) i = refl
+found-still Found.Nothing i = refl
+
 -- ---- the first number below n that passes
 
 module _ (p : ℕ → Bool) where
@@ -36,13 +58,13 @@ module _ (p : ℕ → Bool) where
   unfolding find firstIn tab
   first-zero = refl
 
-  pub first-on : (i : ℕ) → firstOf i ≡ none → p i ≡ false → firstOf (i + 1) ≡ none
-  unfolding find
-  first-on i h e = firstIn-on (λ x. cond (p x) (some x) none) (λ x. x) i h (rw e)
-
-  pub first-at : (i n : ℕ) → i < n → firstOf i ≡ none → p i ≡ true → firstOf n ≡ some i
-  unfolding find
-  first-at i n l h e = firstIn-at (λ x. cond (p x) (some x) none) (λ x. x) i n i l h (rw e)
+  pub first-next : (i : ℕ) → firstOf (i + 1) ≡ orElse (firstOf i) (cond (p i) (some i) none)
+  unfolding find firstIn tab
+  first-next i = ap firstOf (add-one i) ∙ firstIn-append (λ x. cond (p x) (some x) none) (upTo i) (i ∷ []) ∙ ap (orElse (firstOf i)) (alone (cond (p i) (some i) none))
+    where
+      alone : (o : Option ℕ) → orElse o none ≡ o
+      alone none = refl
+      alone (some j) = refl
 
   pub first-below : (n i : ℕ) → firstOf n ≡ some i → i < n
   unfolding find firstIn tab
@@ -96,3 +118,50 @@ module _ (d t : List ℕ) (v : View) (word : List ℕ) where
   pub number-below : (i : ℕ) → numberNamed ≡ some i → i < v .sections
   unfolding numberNamed
   number-below i e = first-below namedAt (v .sections) i e
+
+-- ---- the two names
+
+module _ (d t : List ℕ) (v : View) where
+  -- among the first n sections
+  abbrev pub namedBelow : ℕ → Named
+  namedBelow n =
+      record {
+        license = foundOf (firstOf (namedAt d t v (ascii "license")) n);
+        version = foundOf (firstOf (namedAt d t v (ascii "version")) n);
+      }
+
+  abbrev pub namedIn : Named
+  namedIn = record { license = foundOf (numberNamed d t v (ascii "license")); version = foundOf (numberNamed d t v (ascii "version")) }
+
+  -- what was found before section i, and with it
+  abbrev pub withSection : ℕ → Named → Named
+  withSection i f =
+      record {
+        license = foundOr (f .license) (namedAt d t v (ascii "license") i) i;
+        version = foundOr (f .version) (namedAt d t v (ascii "version") i) i;
+      }
+
+  pub named-none : namedBelow 0 ≡ record { license = Found.Nothing; version = Found.Nothing }
+  named-none = rw (first-zero (namedAt d t v (ascii "license")), first-zero (namedAt d t v (ascii "version")))
+
+  pub named-next : (i : ℕ) → namedBelow (i + 1) ≡ withSection i (namedBelow i)
+  named-next i = rw (
+    first-next (namedAt d t v (ascii "license")) i,
+    first-next (namedAt d t v (ascii "version")) i,
+    found-or (firstOf (namedAt d t v (ascii "license")) i) (namedAt d t v (ascii "license") i) i,
+    found-or (firstOf (namedAt d t v (ascii "version")) i) (namedAt d t v (ascii "version") i) i,
+  )
+
+  pub named-all : namedBelow (v .sections) ≡ namedIn
+  unfolding numberNamed
+  named-all = refl
+
+  -- both words have 7 bytes
+  pub named-other : (i : ℕ) (f : Named) → (sectionAt d t v i .name .length ≡ 7 → ⊥) → withSection i f ≡ f
+  unfolding sectionFrom
+  named-other i f h =
+      let n = nameIn d v (sectionAt d t v i .name) in
+      let e : length n ≡ sectionAt d t v i .name .length = length-bytes d (gapOf v) (v .at .names + sectionAt d t v i .name .at) (sectionAt d t v i .name .length) in
+      let a = same-lengths (ascii "license") n (rw e h) in
+      let b = same-lengths (ascii "version") n (rw e h) in
+      rw (a, b, found-still (f .license) i, found-still (f .version) i)

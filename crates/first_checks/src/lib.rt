@@ -12,11 +12,13 @@ ghost use Rattle.model.specs.LicenceVersion.{parseLicense, parseVersion};
 ghost use Rattle.model.specs.Refusals.{licenceRefusal, versionRefusal};
 ghost use Rattle.model.specs.Contents.{versionOf};
 ghost use Rattle.records.specs.Readable.{Readable};
+ghost use Rattle.records.specs.View.{nameIn};
 ghost use Rattle.view.specs.Checked.{checkedOf};
-ghost use Rattle.view.specs.View.{sectionFrom, sectionIn, objectIn};
-ghost use Rattle.first_checks.specs.Named.{foundOf, numberNamed};
+ghost use Rattle.view.specs.View.{sectionFrom, objectIn};
+ghost use Rattle.first_checks.specs.Named.{foundOr, withSection, namedIn};
 ghost use Rattle.first_checks.specs.Targets.{NextOf, nextUntargeted, reaches};
 ghost use Rattle.first_checks.specs.LicenceVersion.{licenceRefused, versionRefused, licenseAt};
+use model::Extent;
 use model::KernelVersion;
 use model::ParsedLicense;
 use model::ParsedVersion;
@@ -41,29 +43,68 @@ pub enum LicenseAt {
     Bytes(usize, usize),
 }
 
-// Whether section i is named exactly word.
-fn is_named(d: &[u8], t: &[u32], v: View, i: u32, word: &[u8]) -> bool
-    ensures { λ r. ⌜ r ≡ same (now (word .entry)) (sectionIn (now (d .entry)) (now (t .entry)) v i .name) ⌝ }
+// The first section named `license`, and the first named `version`.
+pub struct Named {
+    pub license: Found,
+    pub version: Found,
+}
+
+// Whether a name is exactly word.
+fn is_word(d: &[u8], v: View, name: Extent, word: &[u8]) -> bool
+    ensures { λ r. ⌜ r ≡ same (now (word .entry)) (nameIn (now (d .entry)) v name) ⌝ }
 {
-    let e = records::section_name(d, t, v, i);
-    let at = name_at(v, e);
-    let n = size(e.length);
+    let at = name_at(v, name);
+    let n = size(name.length);
     names::same(d, records::gap(v), at, n, word)
 }
 
-// The first section that is named exactly word.
-pub fn first_named(d: &[u8], t: &[u32], v: View, word: &[u8]) -> Found
-    ensures { λ r. ⌜ r ≡ foundOf (numberNamed (now (d .entry)) (now (t .entry)) v (now (word .entry))) ⌝ }
+// What was found before section i, else i where it is named so.
+fn found_or(found: Found, named: bool, i: u32) -> Found
+    ensures { λ r. ⌜ r ≡ foundOr found named i ⌝ }
+{
+    match found {
+        Found::At(k) => Found::At(k),
+        Found::Nothing => {
+            if named {
+                return Found::At(i);
+            }
+            Found::Nothing
+        }
+    }
+}
+
+// What was found before section i, and with it. Both words have 7 bytes.
+fn with_section(d: &[u8], t: &[u32], v: View, i: u32, found: Named) -> Named
+    ensures { λ r. ⌜ r ≡ withSection (now (d .entry)) (now (t .entry)) v i found ⌝ }
+{
+    let name = records::section_name(d, t, v, i);
+    if name.length != 7 {
+        return found;
+    }
+    let license = found.license;
+    let version = found.version;
+    let is_license = is_word(d, v, name, b"license");
+    let is_version = is_word(d, v, name, b"version");
+    Named {
+        license: found_or(license, is_license, i),
+        version: found_or(version, is_version, i),
+    }
+}
+
+pub fn find_named(d: &[u8], t: &[u32], v: View) -> Named
+    ensures { λ r. ⌜ r ≡ namedIn (now (d .entry)) (now (t .entry)) v ⌝ }
 {
     let end = v.sections;
+    let mut found = Named {
+        license: Found::Nothing,
+        version: Found::Nothing,
+    };
     let mut i: u32 = 0;
     while i < end {
-        if is_named(d, t, v, i, word) {
-            return Found::At(i);
-        }
+        found = with_section(d, t, v, i, found);
         i += 1;
     }
-    Found::Nothing
+    found
 }
 
 fn nearer(symbol: u32, k: u32, nearest: u32) -> u32
@@ -154,31 +195,38 @@ fn check_version(d: &[u8], t: &[u32], v: View, s: SectionRecord, next: &[u32]) -
     }
 }
 
-pub fn license_refusal(d: &[u8], t: &[u32], v: View, next: &[u32]) -> Checked
-    requires { ⌜ NextOf (now d) (now t) v (now next) × Readable (now d) (now t) v ⌝ }
+// Numbers 4 to 6, where the section named `license` is found.
+pub fn license_refusal(d: &[u8], t: &[u32], v: View, found: Found, next: &[u32]) -> Checked
+    requires { ⌜
+        (found ≡ namedIn (now d) (now t) v .license) × NextOf (now d) (now t) v (now next) × Readable (now d) (now t) v
+        ⌝ }
     ensures { λ r. ⌜ r ≡ checkedOf (licenceRefused (now (d .entry)) (now (t .entry)) v) ⌝ }
 {
-    let Found::At(i) = first_named(d, t, v, b"license") else {
+    let Found::At(i) = found else {
         return Checked::Fine;
     };
     check_license(d, t, v, records::section(d, t, v, i), next)
 }
 
-pub fn version_refusal(d: &[u8], t: &[u32], v: View, next: &[u32]) -> Checked
-    requires { ⌜ NextOf (now d) (now t) v (now next) × Readable (now d) (now t) v ⌝ }
+// Numbers 4 and 7, where the section named `version` is found.
+pub fn version_refusal(d: &[u8], t: &[u32], v: View, found: Found, next: &[u32]) -> Checked
+    requires { ⌜
+        (found ≡ namedIn (now d) (now t) v .version) × NextOf (now d) (now t) v (now next) × Readable (now d) (now t) v
+        ⌝ }
     ensures { λ r. ⌜ r ≡ checkedOf (versionRefused (now (d .entry)) (now (t .entry)) v) ⌝ }
 {
-    let Found::At(i) = first_named(d, t, v, b"version") else {
+    let Found::At(i) = found else {
         return Checked::Fine;
     };
     check_version(d, t, v, records::section(d, t, v, i), next)
 }
 
 // The licence of an object.
-pub fn license_of(d: &[u8], t: &[u32], v: View) -> LicenseAt
+pub fn license_of(d: &[u8], t: &[u32], v: View, found: Found) -> LicenseAt
+    requires { ⌜ found ≡ namedIn (now d) (now t) v .license ⌝ }
     ensures { λ r. ⌜ r ≡ licenseAt (now (d .entry)) (now (t .entry)) v ⌝ }
 {
-    let Found::At(i) = first_named(d, t, v, b"license") else {
+    let Found::At(i) = found else {
         return LicenseAt::Gpl;
     };
     let s = records::section(d, t, v, i);
@@ -191,11 +239,11 @@ pub fn license_of(d: &[u8], t: &[u32], v: View) -> LicenseAt
 }
 
 // The version of an object that is not refused for it.
-pub fn version_of(d: &[u8], t: &[u32], v: View) -> KernelVersion
-    requires { ⌜ versionRefused (now d) (now t) v ≡ none ⌝ }
+pub fn version_of(d: &[u8], t: &[u32], v: View, found: Found) -> KernelVersion
+    requires { ⌜ (found ≡ namedIn (now d) (now t) v .version) × (versionRefused (now d) (now t) v ≡ none) ⌝ }
     ensures { λ r. ⌜ r ≡ versionOf (objectIn (now (d .entry)) (now (t .entry)) v) ⌝ }
 {
-    let Found::At(i) = first_named(d, t, v, b"version") else {
+    let Found::At(i) = found else {
         return KernelVersion::Any;
     };
     match parsed_version(d, t, v, records::section(d, t, v, i)) {

@@ -42,11 +42,11 @@ pub record Fillable (d t : List ℕ) (v : View) (plan : Plan) (s p f m sections 
   pub stored : relocations ≡ imageOf (catalogue d t v) .relocations ++ drop (plan .relocations * 4) relocations
 
 -- the summary by the plan
-unfoldable pub summaryBy : List ℕ → List ℕ → View → Plan → Summary
-summaryBy d t v plan =
+unfoldable pub summaryBy : View → Plan → Summary
+summaryBy v plan =
     record {
       order = v .order;
-      version = versionOf (objectIn d t v);
+      version = plan .counts .version;
       license = plan .places .sections;
       sections = plan .counts .sections;
       programs = plan .counts .programs;
@@ -65,7 +65,7 @@ module _ (d t : List ℕ) (v : View) (room : Room) (plan : Plan) (s p f m : List
   unfolding catalogueOf
   version-is = refl
 
-  pub summary-is : summaryBy d t v plan ≡ summaryOf (catalogue d t v)
+  pub summary-is : summaryBy v plan ≡ summaryOf (catalogue d t v)
   unfolding summaryOf sectionsAt summaryBy
   summary-is =
       let held = g .held in
@@ -76,7 +76,7 @@ module _ (d t : List ℕ) (v : View) (room : Room) (plan : Plan) (s p f m : List
       λ j.
       record {
         order = sym order-is j;
-        version = sym version-is j;
+        version = (held .version ∙ sym version-is) j;
         license = g .at .sections j;
         sections = x₄ j;
         programs = x₅ j;

@@ -1,13 +1,10 @@
 // Everything that is lent but the function table: cleared where the object is refused, filled where it is accepted; and the summary.
 ghost use mathlib.Core.Path.{_≡_};
-ghost use mathlib.Core.Option.{none};
 ghost use lib.ListN.{length, replicate};
 ghost use Rattle.model.specs.Lent.{bytesOf, imageOf, filled};
 ghost use Rattle.bytes.specs.Parts.{catalogue};
-ghost use Rattle.first_checks.specs.LicenceVersion.{versionRefused};
 ghost use Rattle.lent_tables.specs.Fills.{Fillable, summaryBy};
 use decision::Plan;
-use first_checks::version_of;
 use image::clear_from;
 use image::fill_bytes;
 use image::fill_maps;
@@ -84,19 +81,20 @@ fn wide(x: usize) -> u64
     x as u64
 }
 
-pub fn summary(d: &[u8], t: &[u32], v: View, plan: Plan) -> Summary
-    requires { ⌜ versionRefused (now d) (now t) v ≡ none ⌝ }
-    ensures { λ r. ⌜ r ≡ summaryBy (now (d .entry)) (now (t .entry)) v plan ⌝ }
+pub fn summary(v: View, plan: Plan) -> Summary
+    ensures { λ r. ⌜ r ≡ summaryBy v plan ⌝ }
 {
     let order = v.order;
+    let counts = plan.counts;
+    let version = counts.version;
     Summary {
         order,
-        version: version_of(d, t, v),
+        version,
         license: wide(plan.places.sections),
-        sections: wide(plan.counts.sections),
-        programs: wide(plan.counts.programs),
-        functions: wide(plan.counts.functions),
-        maps: wide(plan.counts.maps),
+        sections: wide(counts.sections),
+        programs: wide(counts.programs),
+        functions: wide(counts.functions),
+        maps: wide(counts.maps),
         relocations: wide(plan.relocations),
         bytes: wide(plan.places.end),
     }

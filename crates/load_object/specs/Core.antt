@@ -66,10 +66,10 @@ noRows = record { view = noView; count = 0; name = 0; code = 0 }
 abbrev pub refusedBy : Refusal → Loaded
 refusedBy q = record { answer = Answer.Refused q; rows = noRows }
 
-abbrev pub acceptedBy : List ℕ → List ℕ → View → Plan → Loaded
-acceptedBy d t v plan =
+abbrev pub acceptedBy : View → Plan → Loaded
+acceptedBy v plan =
     record {
-      answer = Answer.Accepted (summaryBy d t v plan);
+      answer = Answer.Accepted (summaryBy v plan);
       rows = record { view = v; count = plan .counts .functions; name = plan .places .functions; code = plan .places .code };
     }
 
@@ -132,6 +132,8 @@ module _ (d t : List ℕ) (v : View) (s p f m : List ℕ) where
         few-programs = omega (arith, i₂);
         few-functions = omega (arith, i₃);
         few-maps = omega (arith, i₄);
+        license = refl;
+        version = refl;
       }
 
   pub numbers-refused : (q : Refusal) → Parsed.Parsed d t v (Tables.Refused q) s p f m → objectRefusal (objectIn d t v) ≡ some q
@@ -207,7 +209,7 @@ module _ (d t : List ℕ) (v : View) (room : Room) (plan : Plan) (s p f m : List
   functions-are rest =
       ap (map (functionAt d t v)) (take-append-le (plan .counts .functions) f rest (g .held .functions-in) ∙ g .held .functions) ∙ sym (functions-by d t v readable)
 
-  rows-of : (rest : List ℕ) → rowsMade d t (f ++ rest) 0 (acceptedBy d t v plan .rows) (room .functions) ≡ filledTo room (imageOf (catalogue d t v)) .functions
+  rows-of : (rest : List ℕ) → rowsMade d t (f ++ rest) 0 (acceptedBy v plan .rows) (room .functions) ≡ filledTo room (imageOf (catalogue d t v)) .functions
   unfolding filledTo
   rows-of rest =
       let c = catalogue d t v in
@@ -226,7 +228,7 @@ module _ (d t : List ℕ) (v : View) (room : Room) (plan : Plan) (s p f m : List
       image-functions : placed functionName functionCode functionRow (plan .places .functions) (plan .places .code) (catalogue d t v .functions) ≡ imageOf (catalogue d t v) .functions
       image-functions = image-of (catalogue d t v) (plan .places .functions) (plan .places .code) (g .at .functions) (g .at .code)
 
-  pub accepted-loads : (ps : List Patch) → patchRefusal (objectIn d t v) (catalogue d t v .maps) 1 ps ≡ none → (on : Bool) (s₂ p₂ m₂ l₂ b₂ : List ℕ) (r : Loaded) → r ≡ acceptedBy d t v plan
+  pub accepted-loads : (ps : List Patch) → patchRefusal (objectIn d t v) (catalogue d t v .maps) 1 ps ≡ none → (on : Bool) (s₂ p₂ m₂ l₂ b₂ : List ℕ) (r : Loaded) → r ≡ acceptedBy v plan
       → s₂ ≡ filled 0 (room .sections) (imageOf (catalogue d t v) .sections) → p₂ ≡ filled 0 (room .programs) (imageOf (catalogue d t v) .programs)
       → m₂ ≡ filled 0 (room .maps) (imageOf (catalogue d t v) .maps) → l₂ ≡ filled 0 (room .relocations) (imageOf (catalogue d t v) .relocations)
       → b₂ ≡ filled 0 (room .bytes) (bytesOf (finish (objectIn d t v) ps on (catalogue d t v)))

@@ -9,7 +9,6 @@ ghost use Rattle.model.specs.Patching.{finish, load};
 ghost use Rattle.model.specs.Refusals.{objectRefusal, patchRefusal};
 ghost use Rattle.records.specs.Readable.{Readable};
 ghost use Rattle.view.specs.View.{objectIn};
-ghost use Rattle.first_checks.specs.LicenceVersion.{versionRefused};
 ghost use Rattle.bytes.specs.Held.{Held};
 ghost use Rattle.bytes.specs.Parts.{catalogue};
 ghost use Rattle.decision.specs.Patches.{Ready};
@@ -89,12 +88,11 @@ fn wide(x: usize) -> u64
     x as u64
 }
 
-fn accepted(d: &[u8], t: &[u32], v: View, plan: Plan) -> Loaded
-    requires { ⌜ versionRefused (now d) (now t) v ≡ none ⌝ }
-    ensures { λ l. ⌜ l ≡ acceptedBy (now (d .entry)) (now (t .entry)) v plan ⌝ }
+fn accepted(v: View, plan: Plan) -> Loaded
+    ensures { λ l. ⌜ l ≡ acceptedBy v plan ⌝ }
 {
     Loaded {
-        answer: Answer::Accepted(summary(d, t, v, plan)),
+        answer: Answer::Accepted(summary(v, plan)),
         rows: Rows {
             view: v,
             count: plan.counts.functions,
@@ -155,7 +153,7 @@ fn deliver(
         ⌝ }
     ensures { λ l.
         ⌜
-        (l ≡ acceptedBy (now (d .entry)) (now (t .entry)) v plan)
+        (l ≡ acceptedBy v plan)
         × (now (sections .exit) ≡ filled 0 (length (now (sections .entry))) (imageOf (catalogue (now (d .entry)) (now (t .entry)) v) .sections))
         × (now (programs .exit) ≡ filled 0 (length (now (programs .entry))) (imageOf (catalogue (now (d .entry)) (now (t .entry)) v) .programs))
         × (now (maps .exit) ≡ filled 0 (length (now (maps .entry))) (imageOf (catalogue (now (d .entry)) (now (t .entry)) v) .maps))
@@ -193,7 +191,7 @@ fn deliver(
         maps,
         bytes,
     );
-    accepted(d, t, v, plan)
+    accepted(v, plan)
 }
 
 // An object that numbers 4 to 17 don't refuse and whose tables have n rows; a and b are worked in.

@@ -89,9 +89,11 @@ pub record RoomFor (count : ℕ) (order : List ℕ) (lo hi : ℕ) (sections prog
   pub for-programs : n .programs + (m - n .functions) ≤ length programs
   pub for-maps : n .maps + (hi - lo) < length maps
 
--- js are its symbols and fs its functions, which end at m; r numbers stand in each list then
+-- js are its symbols and fs its functions, which end at m; r numbers stand in each list then, and licence and version stay
 pub record Lists (count : ℕ) (k : Kind) (i : ℕ) (js fs : List ℕ) (n : Counts) (m : ℕ) (r : Counts) (s p o s₂ p₂ o₂ : List ℕ) : Type 0 where
   pub of-sections : Laid (n .sections) (r .sections) (sectionsOf k i) s s₂
   pub of-programs : Laid (n .programs) (r .programs) (programsOf k fs) p p₂
   pub of-functions : r .functions ≡ m
   pub of-maps : Laid (n .maps) (r .maps) (mapsOf count k i js) o o₂
+  pub of-license : r .license ≡ n .license
+  pub of-version : r .version ≡ n .version

@@ -9,8 +9,10 @@ use lib.Seq.{slice, length-slice, length-take-le}
 use Rattle.lists.specs.Tab.{tab, tab-none, rows}
 use Rattle.object_view.specs.declared.View.{View}
 use Rattle.model.specs.declared.EbpfSectionKind.{EbpfSectionKind as Kind}
+use Rattle.model.specs.declared.KernelVersion.{KernelVersion}
 use Rattle.model.specs.declared.Refusal.{Refusal}
 use Rattle.model.specs.Bytes.{firstIn, orElse}
+use Rattle.model.specs.Contents.{versionOf}
 use Rattle.model.specs.Object.{Object}
 use Rattle.model.specs.Refusals.{sectionRefusal, objectRefusal}
 use Rattle.model.specs.SectionKind.{kindOf}
@@ -22,7 +24,8 @@ use Rattle.records.specs.Readable.{Readable}
 use Rattle.view.specs.Group.{member-below}
 use Rattle.view.specs.View.{sectionIn, symbolIn, objectIn}
 use Rattle.catalogue.specs.Numbers.{sectionsFrom, programsFrom, functionsFrom, mapsFrom, sectionCandidates, programCandidates, functionCandidates, mapCandidates}
-use Rattle.first_checks.specs.LicenceVersion.{licenceRefused, versionRefused}
+use Rattle.first_checks.specs.declared.LicenseAt.{LicenseAt}
+use Rattle.first_checks.specs.LicenceVersion.{licenceRefused, versionRefused, licenseAt}
 use Rattle.text.specs.declared.ParsedText.{ParsedText}
 use Rattle.text.specs.Parsed.{parsedText}
 use Rattle.sections.specs.declared.Counts.{Counts}
@@ -56,7 +59,7 @@ module _ (d t : List ℕ) (v : View) where
 
   -- ---- what the pass answers
 
-  -- nothing refuses the object, and the first n of each list are what its sections list
+  -- nothing refuses the object, the first n of each list are what its sections list, and n has its licence and its version
   pub record Found (q : Option Refusal) (n : Counts) (sections programs functions maps : List ℕ) : Type 0 where
     pub fine : q ≡ none
     pub few-sections : n .sections ≤ v .sections
@@ -67,6 +70,8 @@ module _ (d t : List ℕ) (v : View) where
     pub of-programs : Candidates (programCandidates d t v) (n .programs) programs
     pub of-functions : Candidates (functionCandidates d t v) (n .functions) functions
     pub of-maps : Candidates (mapCandidates d t v) (n .maps) maps
+    pub of-license : n .license ≡ licenseAt d t v
+    pub of-version : n .version ≡ versionOf o
 
   abbrev pub Listed : Option Refusal → Tables → List ℕ → List ℕ → List ℕ → List ℕ → Type 0
   Listed q (Tables.Refused x) sections programs functions maps = q ≡ some x
@@ -74,7 +79,7 @@ module _ (d t : List ℕ) (v : View) where
 
   -- ---- the loop
 
-  -- i sections are passed: none is refused, their symbols end at `from`, and the first n of each list are what they list
+  -- i sections are passed: none is refused, their symbols end at `from`, the first n of each list are what they list, and n has the licence and the version
   pub record Going (order sections programs functions maps : List ℕ) (i from : ℕ) (n : Counts) : Type 0 where
     pub reached : Reached d t v order i from
     pub fine : firstIn (sectionRefusal o) (tab (sectionIn d t v) i) ≡ none
@@ -86,6 +91,8 @@ module _ (d t : List ℕ) (v : View) where
     pub of-programs : Candidates (rows (programsFrom d t v) i) (n .programs) programs
     pub of-functions : Candidates (rows (functionsFrom d t v) i) (n .functions) functions
     pub of-maps : Candidates (rows (mapsFrom d t v) i) (n .maps) maps
+    pub of-license : n .license ≡ licenseAt d t v
+    pub of-version : n .version ≡ versionOf o
 
   -- section i is passed too, and its functions are those from w to m of a list
   pub record Ahead (order functions : List ℕ) (i hi w m : ℕ) : Type 0 where
@@ -97,9 +104,10 @@ module _ (d t : List ℕ) (v : View) where
     pub held : Candidates (rows (functionsFrom d t v) (i + 1)) m functions
 
   module _ (order sections programs functions maps : List ℕ) where
-    pub going-start : Going order sections programs functions maps 0 0 (record { sections = 0; programs = 0; functions = 0; maps = 0 })
+    pub going-start : (l : LicenseAt) (k : KernelVersion) → l ≡ licenseAt d t v → k ≡ versionOf o
+        → Going order sections programs functions maps 0 0 (record { sections = 0; programs = 0; functions = 0; maps = 0; license = l; version = k })
     unfolding firstIn
-    going-start =
+    going-start l k e f =
         record {
           reached = reached-start d t v order;
           fine = rw tab-none;
@@ -111,6 +119,8 @@ module _ (d t : List ℕ) (v : View) where
           of-programs = candidates-none (programsFrom d t v) programs;
           of-functions = candidates-none (functionsFrom d t v) functions;
           of-maps = candidates-none (mapsFrom d t v) maps;
+          of-license = e;
+          of-version = f;
         }
 
     module _ (i from : ℕ) (n : Counts) (g : Going order sections programs functions maps i from n) (e : order ≡ sorted (bySection (symbolIn d t v)) (upTo (v .symbols))) where
@@ -130,6 +140,8 @@ module _ (d t : List ℕ) (v : View) where
             of-programs = rw (ap (rows (programsFrom d t v)) q) at (g .of-programs);
             of-functions = rw (ap (rows (functionsFrom d t v)) q) at (g .of-functions);
             of-maps = rw (ap (rows (mapsFrom d t v)) q) at (g .of-maps);
+            of-license = g .of-license;
+            of-version = g .of-version;
           }
 
       -- what lies past the programs and the maps that are listed may change
@@ -146,6 +158,8 @@ module _ (d t : List ℕ) (v : View) where
             of-programs = candidates-past (g .of-programs) lo ps (omega (arith, g .few-programs, g .few-functions));
             of-functions = g .of-functions;
             of-maps = candidates-past (g .of-maps) k ms (omega (arith, g .few-maps));
+            of-license = g .of-license;
+            of-version = g .of-version;
           }
 
       module _ (l : i < v .sections) (readable : Readable d t v) (lo hi : ℕ) (b : GroupOf d t v (sectionAt d t v i) order from lo hi) where
@@ -219,4 +233,6 @@ module _ (d t : List ℕ) (v : View) where
                 of-programs = candidates-next (programsFrom d t v) i (g .of-programs) _ p (r .programs) (programs-by d t v i ∙ rw (← e, ← a .own)) (x .of-programs);
                 of-functions = rw (x .of-functions) (a .held);
                 of-maps = candidates-next (mapsFrom d t v) i (g .of-maps) _ u (r .maps) (maps-by d t v i ∙ rw (← e, ← b .group)) (x .of-maps);
+                of-license = x .of-license ∙ g .of-license;
+                of-version = x .of-version ∙ g .of-version;
               }

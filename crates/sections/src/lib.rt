@@ -4,6 +4,7 @@ ghost use Prim.Native.Nat.{ℕ, _+_, _-_, _^_, _<_, _≤_};
 ghost use lib.ListN.{length, getD};
 ghost use lib.Seq.{slice};
 ghost use Rattle.model.specs.declared.EbpfSectionKind.{EbpfSectionKind as Kind};
+ghost use Rattle.model.specs.Contents.{versionOf};
 ghost use Rattle.model.specs.Refusals.{programRefusal, textRefusal, kindRefusal, sectionRefusal, objectRefusal};
 ghost use Rattle.model.specs.SectionKind.{isKind, kindOf};
 ghost use Rattle.orders.specs.Sort.{byKey, sorted};
@@ -15,13 +16,16 @@ ghost use Rattle.keys.specs.declared.By.{By};
 ghost use Rattle.keys.specs.Keys.{keyOf};
 ghost use Rattle.view.specs.Group.{membersIn, programsAmong};
 ghost use Rattle.view.specs.View.{sectionFrom, symbolIn, objectIn};
+ghost use Rattle.first_checks.specs.LicenceVersion.{licenseAt};
 ghost use Rattle.first_checks.specs.Targets.{NextOf};
 ghost use Rattle.sections.specs.Grouped.{Passed, GroupOf};
 ghost use Rattle.sections.specs.Answers.{answerOf, Answers, walkedIn, functionsBy};
 ghost use Rattle.sections.specs.Lists.{sectionsOf, programsOf, mapsOf, RoomFor, Lists};
 ghost use Rattle.sections.specs.Pass.{Listed, sectionsRefused};
+use first_checks::LicenseAt;
 use keys::By;
 use model::EbpfSectionKind;
+use model::KernelVersion;
 use model::Refusal;
 use model::SectionRecord;
 use object_view::View;
@@ -32,12 +36,14 @@ use view::Checked;
 // A symbol's section, where it has none.
 const NO_SECTION: u32 = 0xFFFF_FFFF;
 
-// How many record numbers there are for each table.
+// How many record numbers there are for each table; where the licence stands, and the version.
 pub struct Counts {
     pub sections: usize,
     pub programs: usize,
     pub functions: usize,
     pub maps: usize,
+    pub license: LicenseAt,
+    pub version: KernelVersion,
 }
 
 pub enum Tables {
@@ -321,11 +327,15 @@ fn list_others(
         (now (programs .entry)) (now (maps .entry)) (now (sections .exit)) (now (programs .exit)) (now (maps .exit))
         ⌝ }
 {
+    let license = n.license;
+    let version = n.version;
     Counts {
         sections: list_section(kind, i, sections, n.sections),
         programs: list_programs(kind, functions, n.functions, m, programs, n.programs),
         functions: m,
         maps: list_maps(count, kind, i, order, lo, hi, maps, n.maps),
+        license,
+        version,
     }
 }
 
@@ -340,11 +350,14 @@ fn parse_sections(
     programs: &mut [u32],
     functions: &mut [u32],
     maps: &mut [u32],
+    license: LicenseAt,
+    version: KernelVersion,
 ) -> Tables
     requires { ⌜
         NextOf (now d) (now t) v (now next) × (now order ≡ sorted (bySection (symbolIn (now d) (now t) v)) (upTo (v .symbols)))
         × (v .sections ≤ length (now sections)) × (v .symbols ≤ length (now programs)) × (v .symbols ≤ length (now functions))
         × (v .sections + v .symbols ≤ length (now maps)) × Readable (now d) (now t) v
+        × (license ≡ licenseAt (now d) (now t) v) × (version ≡ versionOf (objectIn (now d) (now t) v))
         ⌝ }
     ensures { λ r.
         ⌜
@@ -361,6 +374,8 @@ fn parse_sections(
         programs: 0,
         functions: 0,
         maps: 0,
+        license,
+        version,
     };
     while i < end {
         let s = records::section(d, t, v, i);
@@ -436,11 +451,28 @@ pub fn parse_object(
     first_checks::next_untargeted(d, t, v, next);
     let y = size(v.symbols);
     groups::by_section(d, t, v, order, &mut programs[0..y]);
-    if let Checked::Refused(r) = first_checks::license_refusal(d, t, v, next) {
+    let named = first_checks::find_named(d, t, v);
+    let named_license = named.license;
+    let named_version = named.version;
+    if let Checked::Refused(r) = first_checks::license_refusal(d, t, v, named_license, next) {
         return Tables::Refused(r);
     }
-    if let Checked::Refused(r) = first_checks::version_refusal(d, t, v, next) {
+    if let Checked::Refused(r) = first_checks::version_refusal(d, t, v, named_version, next) {
         return Tables::Refused(r);
     }
-    parse_sections(d, t, v, next, order, sections, programs, functions, maps)
+    let license = first_checks::license_of(d, t, v, named_license);
+    let version = first_checks::version_of(d, t, v, named_version);
+    parse_sections(
+        d,
+        t,
+        v,
+        next,
+        order,
+        sections,
+        programs,
+        functions,
+        maps,
+        license,
+        version,
+    )
 }

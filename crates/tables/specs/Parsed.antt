@@ -9,10 +9,12 @@ use lib.Seq.{length-take-le}
 use Rattle.lists.specs.Tests.{not-some}
 use Rattle.object_view.specs.declared.View.{View}
 use Rattle.model.specs.declared.Refusal.{Refusal}
+use Rattle.model.specs.Contents.{versionOf}
 use Rattle.model.specs.Refusals.{objectRefusal}
 use Rattle.model.specs.Table.{tableOf}
 use Rattle.view.specs.View.{objectIn}
 use Rattle.catalogue.specs.Numbers.{sectionNumbers, programNumbers, functionNumbers, mapNumbers}
+use Rattle.first_checks.specs.LicenceVersion.{licenseAt}
 use Rattle.sections.specs.declared.Counts.{Counts}
 use Rattle.sections.specs.declared.Tables.{Tables}
 use Rattle.sections.specs.Candidates.{Candidates, candidates-inside}
@@ -53,6 +55,8 @@ module _ (d t : List ℕ) (v : View) where
         programs = length (programNumbers d t v);
         functions = length (functionNumbers d t v);
         maps = length (mapNumbers d t v);
+        license = licenseAt d t v;
+        version = versionOf (objectIn d t v);
       }
 
   -- the four tables, each at the front of its list

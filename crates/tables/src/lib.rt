@@ -35,11 +35,15 @@ fn number_tables(
         × Held (now (d .entry)) (now (t .entry)) v (now (sections .exit)) (now (programs .exit)) (now (functions .exit)) (now (maps .exit))
         ⌝ }
 {
+    let license = n.license;
+    let version = n.version;
     Counts {
         sections: sort::table(d, t, v, By::SectionName, sections, tmp, n.sections),
         programs: sort::table(d, t, v, By::SymbolName, programs, tmp, n.programs),
         functions: sort::table(d, t, v, By::SymbolAddress, functions, tmp, n.functions),
         maps: sort::table(d, t, v, By::MapName, maps, tmp, n.maps),
+        license,
+        version,
     }
 }
 

@@ -1,8 +1,12 @@
 -- `bytes::layout` meets its contract: each place is the one before and the length of what lies there.
+use mathlib.Core.Path.{_≡_, _∙_}
 use Prim.Native.Nat.{_≤_}
 use native.Mathlib.Omega.{arith}
 use denote.Ref.{now}
-use Rattle.bytes.specs.Licence.{licence-short}
+use lib.ListN.{length}
+use Rattle.model.specs.Contents.{licenceOf}
+use Rattle.view.specs.View.{objectIn}
+use Rattle.bytes.specs.Licence.{length-by-place, licence-short}
 use Rattle.bytes.specs.Held.{sections-listed, programs-listed, functions-listed, code-listed, maps-listed, own-listed, places-are}
 use borrow.Author.Needs.{needs}
 use Rattle.bytes.proofs.layout.Statement.{statement}
@@ -11,11 +15,17 @@ use Rattle.bytes.proofs.layout.Tie as tie
 license-length-requires : tie.Need-license-length-requires
 license-length-requires c κs = search needs
 
+long : (c : tie.After-license-length) → c .license-length .result ≡ length (licenceOf (objectIn (now (c .before .before .before .before .before .before .before .args .d)) (now (c .before .before .before .before .before .before .before .args .t)) (c .before .before .before .before .before .before .before .args .v)))
+long c =
+    let z = c .before .before .before .before .before .before .before in
+    let a = z .args in
+    c .license-length .ensures ∙ length-by-place (now (a .d)) (now (a .t)) (a .v) _ (z .pre .2 .license)
+
 short : (c : tie.After-license-length) → c .license-length .result ≤ 16777216
 short c =
     let z = c .before .before .before .before .before .before .before in
     let a = z .args in
-    omega (arith, c .license-length .ensures, licence-short (now (a .d)) (now (a .t)) (a .v) (z .pre .0))
+    omega (arith, long c, licence-short (now (a .d)) (now (a .t)) (a .v) (z .pre .0))
 
 total-requires : tie.Need-total-requires
 total-requires c κs =
@@ -76,7 +86,7 @@ returns c =
     let z = c .before .before .before .before .before .before .before .before .before .before .before .before .before in
     let a = z .args in
     places-are (now (a .d)) (now (a .t)) (a .v) (z .pre .0) (z .pre .1) (a .n) (now (a .sections)) (now (a .programs)) (now (a .functions)) (now (a .maps)) (z .pre .2)
-    _ _ _ _ _ _ _ (c .before .before .before .before .before .before .license-length .ensures) (c .before .before .before .before .before .total .ensures .0) (c .before .before .before .before .total2 .ensures .0) (c .before .before .before .total3 .ensures .0) (c .before .before .total4 .ensures .0) (c .before .total5 .ensures .0) (c .total6 .ensures .0)
+    _ _ _ _ _ _ _ (long (c .before .before .before .before .before .before)) (c .before .before .before .before .before .total .ensures .0) (c .before .before .before .before .total2 .ensures .0) (c .before .before .before .total3 .ensures .0) (c .before .before .total4 .ensures .0) (c .before .total5 .ensures .0) (c .total6 .ensures .0)
     (omega (arith, short (c .before .before .before .before .before .before), c .before .before .before .before .before .total .ensures .1, c .before .before .before .before .total2 .ensures .1, c .before .before .before .total3 .ensures .1, c .before .before .total4 .ensures .1, c .before .total5 .ensures .1, c .total6 .ensures .1))
 
 pub layout-spec : {M : Type 1} → statement M

@@ -21,7 +21,7 @@ put-license-requires : tie.Need-put-license-requires
 put-license-requires c κs =
     let z = c .before .before .before .before .before .before .before .before in
     let a = z .args in
-    (z .pre .0, omega (arith, bytes-length (now (a .d)) (now (a .t)) (a .v) (z .pre .0) (z .pre .1) (a .n) (now (a .sections)) (now (a .programs)) (now (a .functions)) (now (a .maps)) (z .pre .2), z .pre .3))
+    (z .pre .0, z .pre .2 .license, omega (arith, bytes-length (now (a .d)) (now (a .t)) (a .v) (z .pre .0) (z .pre .1) (a .n) (now (a .sections)) (now (a .programs)) (now (a .functions)) (now (a .maps)) (z .pre .2), z .pre .3))
 
 put-part-requires : tie.Need-put-part-requires
 put-part-requires c κs =

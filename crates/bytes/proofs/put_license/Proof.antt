@@ -11,9 +11,6 @@ use borrow.Author.Needs.{needs}
 use Rattle.bytes.proofs.put_license.Statement.{statement}
 use Rattle.bytes.proofs.put_license.Tie as tie
 
-license-of-requires : tie.Need-license-of-requires
-license-of-requires c κs = search needs
-
 enum-told : tie.Need-enum-told
 enum-told c = search needs
 
@@ -23,13 +20,12 @@ slice-aggregate-copy8 c = search needs
 copy8-requires : tie.Need-copy8-requires
 copy8-requires c κs =
     let t = c .before .before in
-    let n = t .before .before in
-    let z = n .before .before .before .before in
+    let z = t .before .before .before .before .before in
     let a = z .args in
-    rw (licence-gpl (now (a .d)) (now (a .t)) (a .v) (sym (t .enum-told .given .1) ∙ n .license-of .ensures)) at (z .pre .1)
+    rw (licence-gpl (now (a .d)) (now (a .t)) (a .v) (sym (t .enum-told .given .1) ∙ z .pre .1)) at (z .pre .2)
 
-enum-known-at : tie.Need-enum-known-at
-enum-known-at c = search needs
+enum-known-license : tie.Need-enum-known-license
+enum-known-license c = search needs
 
 gap-requires : tie.Need-gap-requires
 gap-requires c κs = search needs
@@ -37,15 +33,14 @@ gap-requires c κs = search needs
 copy-stream-requires : tie.Need-copy-stream-requires
 copy-stream-requires c κs =
     let k = c .before .before .before in
-    let n = k .before .before in
-    let z = n .before .before .before .before in
+    let z = k .before .before .before .before .before in
     let a = z .args in
-    let at = k .at .given .0 .0 in
-    let m = k .at .given .0 .1 .0 in
-    let e = sym (k .at .given .1) ∙ n .license-of .ensures in
+    let at = k .license .given .0 .0 in
+    let m = k .license .given .0 .1 .0 in
+    let e = sym (k .license .given .1) ∙ z .pre .1 in
     let p = licence-placed (now (a .d)) (now (a .t)) (a .v) at m e (z .pre .0) in
     let l : at + m ≤ place (gapOf (a .v)) (at + m) = omega arith in
-    (c .before .gap .ensures .1, omega (arith, p .0, z .pre .0 .short), rw (c .before .gap .ensures .0) (p .0), omega (arith, licence-length (now (a .d)) (now (a .t)) (a .v) at m e, z .pre .1))
+    (c .before .gap .ensures .1, omega (arith, p .0, z .pre .0 .short), rw (c .before .gap .ensures .0) (p .0), omega (arith, licence-length (now (a .d)) (now (a .t)) (a .v) at m e, z .pre .2))
 
 same-length : tie.Need-same-length
 same-length c = search needs
@@ -54,9 +49,9 @@ returns : tie.Need-returns
 returns c =
     let k = c .before .before in
     let t = k .before .before .before in
-    let n = t .before .before in
-    let a = n .before .before .before .before .args in
-    let e = licence-gpl (now (a .d)) (now (a .t)) (a .v) (sym (t .enum-told .given .1) ∙ n .license-of .ensures) in
+    let z = t .before .before .before .before .before in
+    let a = z .args in
+    let e = licence-gpl (now (a .d)) (now (a .t)) (a .v) (sym (t .enum-told .given .1) ∙ z .pre .1) in
     (rw e, rw e (k .copy8 .ensures))
 
 same-length-2 : tie.Need-same-length-2
@@ -67,22 +62,21 @@ returns-2 c =
     let f = c .before .before in
     let g = f .before .before .gap in
     let k = f .before .before .before .before in
-    let n = k .before .before in
-    let a = n .before .before .before .before .args in
-    let at = k .at .given .0 .0 in
-    let m = k .at .given .0 .1 .0 in
-    let e = sym (k .at .given .1) ∙ n .license-of .ensures in
+    let z = k .before .before .before .before .before in
+    let a = z .args in
+    let at = k .license .given .0 .0 in
+    let m = k .license .given .0 .1 .0 in
+    let e = sym (k .license .given .1) ∙ z .pre .1 in
     (sym (licence-length (now (a .d)) (now (a .t)) (a .v) at m e), rw (licence-stands (now (a .d)) (now (a .t)) (a .v) at m e) (rw (zero-add m, g .ensures .0) at (f .copy-stream .ensures)))
 
 pub put-license-spec : {M : Type 1} → statement M
 put-license-spec =
     tie.close
     (tie.spec
-    license-of-requires
     enum-told
     slice-aggregate-copy8
     copy8-requires
-    enum-known-at
+    enum-known-license
     gap-requires
     copy-stream-requires
     same-length

@@ -10,14 +10,8 @@ use borrow.Author.Needs.{needs}
 use Rattle.first_checks.proofs.license_of.Statement.{statement}
 use Rattle.first_checks.proofs.license_of.Tie as tie
 
-slice-aggregate-first-named : tie.Need-slice-aggregate-first-named
-slice-aggregate-first-named c = search needs
-
-first-named-requires : tie.Need-first-named-requires
-first-named-requires c κs = search needs
-
-enum-known-i : tie.Need-enum-known-i
-enum-known-i c = search needs
+enum-known-found : tie.Need-enum-known-found
+enum-known-found c = search needs
 
 enum-told : tie.Need-enum-told
 enum-told c = search needs
@@ -25,9 +19,9 @@ enum-told c = search needs
 returns : tie.Need-returns
 unfolding licenseAt
 returns c =
-    let n = c .before .before in
-    let a = n .before .before .before .before .args in
-    let o = found-nothing (numberNamed (now (a .d)) (now (a .t)) (a .v) (ascii "license")) (sym (n .first-named .ensures) ∙ c .enum-told .given .1) in
+    let z = c .before .before .before .before in
+    let a = z .args in
+    let o = found-nothing (numberNamed (now (a .d)) (now (a .t)) (a .v) (ascii "license")) (sym (z .pre) ∙ c .enum-told .given .1) in
     rw o
 
 section-requires : tie.Need-section-requires
@@ -44,23 +38,21 @@ unfolding licenseAt
 returns-2 c =
     let s = c .before .before .before in
     let i = s .before .before in
-    let n = i .before .before in
-    let a = n .before .before .before .before .args in
-    let o = found-at (numberNamed (now (a .d)) (now (a .t)) (a .v) (ascii "license")) (i .i .given .0 .0) (sym (n .first-named .ensures) ∙ i .i .given .1) in
+    let a = i .before .before .before .before .args in
+    let o = found-at (numberNamed (now (a .d)) (now (a .t)) (a .v) (ascii "license")) (i .found .given .0 .0) (sym (i .before .before .before .before .pre) ∙ i .found .given .1) in
     let z : s .section .result .bytes .length - 1 ≡ 0 = omega arith in
     rw (o, ← s .section .ensures, z, c .before .before .data-place .ensures .0)
 
-sub-t13 : tie.Need-sub-t13
-sub-t13 c = search needs
+sub-t10 : tie.Need-sub-t10
+sub-t10 c = search needs
 
 returns-3 : tie.Need-returns-3
 unfolding licenseAt
 returns-3 c =
     let s = c .before .before .before in
     let i = s .before .before in
-    let n = i .before .before in
-    let a = n .before .before .before .before .args in
-    let o = found-at (numberNamed (now (a .d)) (now (a .t)) (a .v) (ascii "license")) (i .i .given .0 .0) (sym (n .first-named .ensures) ∙ i .i .given .1) in
+    let a = i .before .before .before .before .args in
+    let o = found-at (numberNamed (now (a .d)) (now (a .t)) (a .v) (ascii "license")) (i .found .given .0 .0) (sym (i .before .before .before .before .pre) ∙ i .found .given .1) in
     let z : s .section .result .bytes .length - 1 ≡ c .before .size .result - 1 = omega arith in
     rw (o, ← s .section .ensures, z, c .before .before .data-place .ensures .0)
 
@@ -68,14 +60,12 @@ pub license-of-spec : {M : Type 1} → statement M
 license-of-spec =
     tie.close
     (tie.spec
-    slice-aggregate-first-named
-    first-named-requires
-    enum-known-i
+    enum-known-found
     enum-told
     returns
     section-requires
     data-place-requires
     size-requires
     returns-2
-    sub-t13
+    sub-t10
     returns-3)

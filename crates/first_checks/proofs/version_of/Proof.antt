@@ -13,23 +13,17 @@ use borrow.Author.Needs.{needs}
 use Rattle.first_checks.proofs.version_of.Statement.{statement}
 use Rattle.first_checks.proofs.version_of.Tie as tie
 
-slice-aggregate-first-named : tie.Need-slice-aggregate-first-named
-slice-aggregate-first-named c = search needs
-
-first-named-requires : tie.Need-first-named-requires
-first-named-requires c κs = search needs
-
-enum-known-i : tie.Need-enum-known-i
-enum-known-i c = search needs
+enum-known-found : tie.Need-enum-known-found
+enum-known-found c = search needs
 
 enum-told : tie.Need-enum-told
 enum-told c = search needs
 
 returns : tie.Need-returns
 returns c =
-    let n = c .before .before in
-    let a = n .before .before .before .before .args in
-    let o = found-nothing (numberNamed (now (a .d)) (now (a .t)) (a .v) (ascii "version")) (sym (n .first-named .ensures) ∙ c .enum-told .given .1) in
+    let z = c .before .before .before .before in
+    let a = z .args in
+    let o = found-nothing (numberNamed (now (a .d)) (now (a .t)) (a .v) (ascii "version")) (sym (z .pre .0) ∙ c .enum-told .given .1) in
     rw (version-by-number (now (a .d)) (now (a .t)) (a .v), o)
 
 section-requires : tie.Need-section-requires
@@ -48,12 +42,11 @@ returns-2 : tie.Need-returns-2
 returns-2 c =
     let v = c .before .before .before in
     let i = v .before .before .before in
-    let n = i .before .before in
-    let z = n .before .before .before .before in
+    let z = i .before .before .before .before in
     let a = z .args in
-    let k = i .i .given .0 .0 in
-    let o = found-at (numberNamed (now (a .d)) (now (a .t)) (a .v) (ascii "version")) k (sym (n .first-named .ensures) ∙ i .i .given .1) in
-    let p = version-kept (now (a .d)) (now (a .t)) (a .v) k o (z .pre) in
+    let k = i .found .given .0 .0 in
+    let o = found-at (numberNamed (now (a .d)) (now (a .t)) (a .v) (ascii "version")) k (sym (z .pre .0) ∙ i .found .given .1) in
+    let p = version-kept (now (a .d)) (now (a .t)) (a .v) k o (z .pre .1) in
     let q = (rw (v .before .section .ensures) at (v .parsed-version .ensures)) ∙ p in
     let e : ParsedVersion.Version (c .before .version .given .0 .0) ≡ ParsedVersion.Version (versionIn (a .v .order) (sectionIn (now (a .d)) (now (a .t)) (a .v) k .bytes)) =
     sym (c .before .version .given .1) ∙ q
@@ -64,12 +57,11 @@ returns-3 : tie.Need-returns-3
 returns-3 c =
     let v = c .before .before in
     let i = v .before .before .before in
-    let n = i .before .before in
-    let z = n .before .before .before .before in
+    let z = i .before .before .before .before in
     let a = z .args in
-    let k = i .i .given .0 .0 in
-    let o = found-at (numberNamed (now (a .d)) (now (a .t)) (a .v) (ascii "version")) k (sym (n .first-named .ensures) ∙ i .i .given .1) in
-    let p = version-kept (now (a .d)) (now (a .t)) (a .v) k o (z .pre) in
+    let k = i .found .given .0 .0 in
+    let o = found-at (numberNamed (now (a .d)) (now (a .t)) (a .v) (ascii "version")) k (sym (z .pre .0) ∙ i .found .given .1) in
+    let p = version-kept (now (a .d)) (now (a .t)) (a .v) k o (z .pre .1) in
     let q = (rw (v .before .section .ensures) at (v .parsed-version .ensures)) ∙ p in
     let e = sym (c .enum-told2 .given .1) ∙ q in
     let z : _≡_ {A = ℕ} 0 1 = cc in
@@ -79,9 +71,7 @@ pub version-of-spec : {M : Type 1} → statement M
 version-of-spec =
     tie.close
     (tie.spec
-    slice-aggregate-first-named
-    first-named-requires
-    enum-known-i
+    enum-known-found
     enum-told
     returns
     section-requires

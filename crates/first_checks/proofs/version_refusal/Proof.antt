@@ -9,23 +9,17 @@ use borrow.Author.Needs.{needs}
 use Rattle.first_checks.proofs.version_refusal.Statement.{statement}
 use Rattle.first_checks.proofs.version_refusal.Tie as tie
 
-slice-aggregate-first-named : tie.Need-slice-aggregate-first-named
-slice-aggregate-first-named c = search needs
-
-first-named-requires : tie.Need-first-named-requires
-first-named-requires c κs = search needs
-
-enum-known-i : tie.Need-enum-known-i
-enum-known-i c = search needs
+enum-known-found : tie.Need-enum-known-found
+enum-known-found c = search needs
 
 enum-told : tie.Need-enum-told
 enum-told c = search needs
 
 returns : tie.Need-returns
 returns c =
-    let n = c .before .before in
-    let a = n .before .before .before .before .before .args in
-    let o = found-nothing (numberNamed (now (a .d)) (now (a .t)) (a .v) (ascii "version")) (sym (n .first-named .ensures) ∙ c .enum-told .given .1) in
+    let z = c .before .before .before .before .before in
+    let a = z .args in
+    let o = found-nothing (numberNamed (now (a .d)) (now (a .t)) (a .v) (ascii "version")) (sym (z .pre .0) ∙ c .enum-told .given .1) in
     rw (made-of-named (now (a .d)) (now (a .t)) (a .v) (ascii "version") none (versionRefusal (a .v .order)), o)
 
 section-requires : tie.Need-section-requires
@@ -34,28 +28,25 @@ section-requires c κs = search needs
 check-version-requires : tie.Need-check-version-requires
 check-version-requires c κs =
     let i = c .before .before in
-    let n = i .before .before in
-    let z = n .before .before .before .before .before in
+    let z = i .before .before .before .before .before in
     let a = z .args in
-    let o = found-at (numberNamed (now (a .d)) (now (a .t)) (a .v) (ascii "version")) (i .i .given .0 .0) (sym (n .first-named .ensures) ∙ i .i .given .1) in
-    let l = z .pre .1 .relocations-inside (i .i .given .0 .0) (number-below (now (a .d)) (now (a .t)) (a .v) (ascii "version") (i .i .given .0 .0) o) in
-    (z .pre .0, rw (c .section .ensures) l)
+    let o = found-at (numberNamed (now (a .d)) (now (a .t)) (a .v) (ascii "version")) (i .found .given .0 .0) (sym (z .pre .0) ∙ i .found .given .1) in
+    let l = z .pre .2 .relocations-inside (i .found .given .0 .0) (number-below (now (a .d)) (now (a .t)) (a .v) (ascii "version") (i .found .given .0 .0) o) in
+    (z .pre .1, rw (c .section .ensures) l)
 
 returns-2 : tie.Need-returns-2
 returns-2 c =
     let i = c .before .before .before in
-    let n = i .before .before in
-    let a = n .before .before .before .before .before .args in
-    let o = found-at (numberNamed (now (a .d)) (now (a .t)) (a .v) (ascii "version")) (i .i .given .0 .0) (sym (n .first-named .ensures) ∙ i .i .given .1) in
+    let z = i .before .before .before .before .before in
+    let a = z .args in
+    let o = found-at (numberNamed (now (a .d)) (now (a .t)) (a .v) (ascii "version")) (i .found .given .0 .0) (sym (z .pre .0) ∙ i .found .given .1) in
     rw (made-of-named (now (a .d)) (now (a .t)) (a .v) (ascii "version") none (versionRefusal (a .v .order)), o, c .check-version .ensures, c .before .section .ensures)
 
 pub version-refusal-spec : {M : Type 1} → statement M
 version-refusal-spec =
     tie.close
     (tie.spec
-    slice-aggregate-first-named
-    first-named-requires
-    enum-known-i
+    enum-known-found
     enum-told
     returns
     section-requires

@@ -4,9 +4,6 @@ use borrow.Author.Needs.{needs}
 use Rattle.lent_tables.proofs.summary.Statement.{statement}
 use Rattle.lent_tables.proofs.summary.Tie as tie
 
-version-of-requires : tie.Need-version-of-requires
-version-of-requires c κs = search needs
-
 wide-requires : tie.Need-wide-requires
 wide-requires c κs = search needs
 
@@ -32,8 +29,8 @@ returns : tie.Need-returns
 unfolding summaryBy
 returns c = λ j.
     record {
-      order = c .before .before .before .before .before .before .before .before .before .before .args .v .order;
-      version = c .before .before .before .before .before .before .before .version-of .ensures j;
+      order = c .before .before .before .before .before .before .before .before .args .v .order;
+      version = c .before .before .before .before .before .before .before .before .args .plan .counts .version;
       license = c .before .before .before .before .before .before .wide .ensures j;
       sections = c .before .before .before .before .before .wide2 .ensures j;
       programs = c .before .before .before .before .wide3 .ensures j;
@@ -47,7 +44,6 @@ pub summary-spec : {M : Type 1} → statement M
 summary-spec =
     tie.close
     (tie.spec
-    version-of-requires
     wide-requires
     wide-requires-2
     wide-requires-3

@@ -19,8 +19,8 @@ returns c = λ i.
       answer = Answer.Accepted (c .before .before .summary .ensures i);
       rows =
           record {
-            view = c .before .before .before .before .before .args .v;
-            count = c .before .before .before .before .before .args .plan .counts .functions;
+            view = c .before .before .before .args .v;
+            count = c .before .before .before .args .plan .counts .functions;
             name = c .before .wide .ensures i;
             code = c .wide2 .ensures i;
           };

@@ -1,6 +1,5 @@
 -- `load_object::deliver` meets its contract: the catalogue is filled, then its bytes are finished.
 use denote.Ref.{now}
-use Rattle.accepted.specs.Numbers.{version-fine}
 use Rattle.load_object.specs.Core.{patch-ready}
 use borrow.Author.Needs.{needs}
 use Rattle.load_object.proofs.deliver.Statement.{statement}
@@ -25,7 +24,7 @@ finish-bytes-requires c κs =
     )
 
 accepted-requires : tie.Need-accepted-requires
-accepted-requires c κs = let z = c .before .before .before .before .before .before .before .before .before .before .before .before .before .before .before .before .before .before .before .before .before .before .before .before .before .before .before .before .before .before .before .before .before .before .before .before in version-fine (now (z .args .d)) (now (z .args .t)) (z .args .v) (z .pre .0 .ok)
+accepted-requires c κs = search needs
 
 same-length : tie.Need-same-length
 same-length c = search needs

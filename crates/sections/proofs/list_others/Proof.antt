@@ -32,6 +32,8 @@ returns c =
       of-programs = p .list-programs .ensures;
       of-functions = refl;
       of-maps = m .list-maps .ensures;
+      of-license = refl;
+      of-version = refl;
     }
 
 pub list-others-spec : {M : Type 1} → statement M

@@ -29,8 +29,9 @@ size-requires c κs = search needs
 
 loop-holds : tie.Need-loop-holds Inv-loop μ-loop
 loop-holds c =
-    let a = c .before .before .before .before .before .before .before .before .before .args in
-    (omega arith, refl, refl, refl, refl, going-start (now (a .d)) (now (a .t)) (a .v) (now (a .order)) (now (a .sections)) (now (a .programs)) (now (a .functions)) (now (a .maps)))
+    let st = c .before .before .before .before .before .before .before .before .before in
+    let a = st .args in
+    (omega arith, refl, refl, refl, refl, going-start (now (a .d)) (now (a .t)) (a .v) (now (a .order)) (now (a .sections)) (now (a .programs)) (now (a .functions)) (now (a .maps)) _ _ (st .pre .7) (st .pre .8))
 
 section-requires : tie.Need-section-requires Inv-loop μ-loop
 section-requires c κs = search needs

@@ -63,7 +63,7 @@ returns c =
     let ps = tabled (keyOf By.SymbolName (now (a .d)) (now (a .t)) (a .v)) _ (p .table2 .result) (q .of-programs) (p .table2 .ensures .1) (p .table2 .ensures .0) (p .table2 .ensures .2) in
     let fs = tabled (keyOf By.SymbolAddress (now (a .d)) (now (a .t)) (a .v)) _ (f .table3 .result) (q .of-functions) (f .table3 .ensures .1) (f .table3 .ensures .0) (f .table3 .ensures .2) in
     let ms = tabled (keyOf By.MapName (now (a .d)) (now (a .t)) (a .v)) _ (m .table4 .result) (q .of-maps) (m .table4 .ensures .1) (m .table4 .ensures .0) (m .table4 .ensures .2) in (
-      λ k. record { sections = ss .count k; programs = ps .count k; functions = fs .count k; maps = ms .count k },
+      λ k. record { sections = ss .count k; programs = ps .count k; functions = fs .count k; maps = ms .count k; license = q .of-license k; version = q .of-version k },
       record { of-sections = ss .front; of-programs = ps .front; of-functions = fs .front; of-maps = ms .front },
     )
 

@@ -1,5 +1,6 @@
 -- `tables::parse` meets its contract: what the pass over the sections refuses, else the four tables.
 use Rattle.tables.specs.Parsed.{lent-length, parsed-refused, parsed-numbers}
+use mathlib.Core.Path.{_∙_}
 use lib.ListN.{length}
 use lib.Seq.{length-front}
 use Prim.Native.Nat.{_-_, _≤_}
@@ -82,10 +83,14 @@ same-length-10 : tie.Need-same-length-10
 same-length-10 c = search needs
 
 same-length-11 : tie.Need-same-length-11
-same-length-11 c = search needs
+same-length-11 c =
+    let t = c .before .before .before .before .before .before .before .before .before .before in
+    let p = t .before .before .before .before .before .before .before .before .before .before .before .before .before .before .before .before .before .before .before .before .before in
+    let z = p .before .before .before .before .before .before .before in
+    t .number-tables .kept .1 .1 .1 .1 .1 .1 .1 .0 ∙ length-front (now (z .before .before .before .before .before .before .before .before .before .args .order)) (p .parse-object .last .1 .1 .1 .1 .0) (z .size .result - 0) (p .parse-object .kept .1 .1 .1 .1 .0)
 
 same-length-12 : tie.Need-same-length-12
-same-length-12 c = search needs
+same-length-12 c = c .before .before .before .before .before .before .before .before .before .before .before .before .before .before .before .before .before .before .before .before .before .before .before .before .before .before .before .before .before .before .before .parse-object .kept .1 .1 .1 .0
 
 returns-2 : tie.Need-returns-2
 returns-2 c =
