@@ -1,6 +1,5 @@
 // Document 01, 'From the register's drawer': the examples that are run. A line has the number expected and the number got, 0 where nothing is refused.
 use libc::STDOUT_FILENO;
-use model::BpfInsn;
 use model::Endianness;
 use model::Extent;
 use model::Head;
@@ -208,29 +207,20 @@ fn texts() {
     line(b"functions of an empty text", 0, empty_text());
 }
 
-// The immediate, of those that the examples have.
-fn immediate(i: BpfInsn) -> u64 {
-    let imm = i.imm;
-    match imm {
-        4 => 4,
-        113 => 113,
-        _ => 0,
-    }
+fn wide(x: u8) -> u64 {
+    x as u64
+}
+
+// The immediate of a call, of which rewriting is on.
+fn immediate(regs: u8) -> u64 {
+    let mut call = [0x85, regs, 0, 0, 0x71, 0, 0, 0];
+    insn::sanitize_code(&mut call, true);
+    wide(call[4])
 }
 
 fn rewriting() {
-    let call = b"\x85\0\0\0\x71\0\0\0";
-    line(
-        b"85 00 00 00 71 00 00 00",
-        4,
-        immediate(insn::sanitize(insn::instruction_at(call, 0))),
-    );
-    let other = b"\x85\x10\0\0\x71\0\0\0";
-    line(
-        b"85 10 00 00 71 00 00 00",
-        113,
-        immediate(insn::sanitize(insn::instruction_at(other, 0))),
-    );
+    line(b"85 00 00 00 71 00 00 00", 4, immediate(0));
+    line(b"85 10 00 00 71 00 00 00", 113, immediate(0x10));
 }
 
 fn main() {

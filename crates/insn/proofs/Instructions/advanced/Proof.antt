@@ -34,13 +34,13 @@ use denote.Triple.Spec.{Meets, tripleOf}
 use denote.Triple.Table.{entered}
 use denote.Triple.Walked.{says, needs, Stays, stay-none, walkOf, goes-none, Walks, ends-at, walked, walk-meets}
 use denote.Exit.{yes}
-use Rattle.insn_reader.specs.declared.Instructions.{Instructions}
-use Rattle.insn_reader.proofs.Instructions as T
-use Rattle.insn_reader.proofs.Instructions.Laws as T′
-use Rattle.insn_reader.proofs.Instructions.advanced.Key.{name as #insn-reader·advanced}
-use Rattle.insn_reader.proofs.Instructions.advanced as advanced
-use Rattle.insn_reader.proofs.Instructions.advanced.Statement as stated
-use Rattle.insn_reader.proofs.Instructions.advanced.Code as code
+use Rattle.insn.specs.declared.Instructions.{Instructions}
+use Rattle.insn.proofs.Instructions as T
+use Rattle.insn.proofs.Instructions.Laws as T′
+use Rattle.insn.proofs.Instructions.advanced.Key.{name as #insn·advanced}
+use Rattle.insn.proofs.Instructions.advanced as advanced
+use Rattle.insn.proofs.Instructions.advanced.Statement as stated
+use Rattle.insn.proofs.Instructions.advanced.Code as code
 
 -- the struct's type, over the signature's lifetimes
 abbrev B : Lfts 1 → RattleType
@@ -101,5 +101,5 @@ pub advanced-spec : {M : Type 1} → stated.statement M
 unfolding code.routine tablesOf
 advanced-spec 𝓤 H 𝓜 𝓖 𝓡 =
     entered 𝓤 H (tripleOf 𝓤 H (𝓖 .A) advanced.signature (advanced.spec 𝓤 H (𝓖 .A) (𝓜 .mem) (𝓡 .run)))
-    (tables 𝓤 H 𝓜 𝓡 code.env .C) (tables 𝓤 H 𝓜 𝓡 code.env .Λ) #insn-reader·advanced code.function (code.unfolded 𝓤 H 𝓜 𝓡)
+    (tables 𝓤 H 𝓜 𝓡 code.env .C) (tables 𝓤 H 𝓜 𝓡 code.env .Λ) #insn·advanced code.function (code.unfolded 𝓤 H 𝓜 𝓡)
     (advanced-meets 𝓤 H (𝓖 .A) (givenOf 𝓤 H 𝓜 𝓖) (𝓜 .mem) (𝓡 .run) (tablesOf 𝓤 H 𝓜 (tables 𝓤 H 𝓜 𝓡 code.env)))

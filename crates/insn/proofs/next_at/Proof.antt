@@ -1,11 +1,11 @@
--- `insn_reader::next_at` meets its contract: by whether the slot is a whole one.
+-- `insn::next_at` meets its contract: by whether the slot is a whole one.
 use mathlib.Core.Path.{sym, ap, _∙_}
 use denote.Ref.{now}
 use borrow.Author.Needs.{needs}
-use Rattle.insn_reader.specs.declared.Next.the-variants.{Insn}
-use Rattle.insn_reader.specs.Reading.{left-some, left-none}
-use Rattle.insn_reader.proofs.next_at.Statement.{statement}
-use Rattle.insn_reader.proofs.next_at.Tie as tie
+use Rattle.insn.specs.declared.Next.the-variants.{Insn}
+use Rattle.insn.specs.Reading.{left-some, left-none}
+use Rattle.insn.proofs.next_at.Statement.{statement}
+use Rattle.insn.proofs.next_at.Tie as tie
 
 instruction-at-requires : tie.Need-instruction-at-requires
 instruction-at-requires c κs = search needs

@@ -1,2 +1,0 @@
--- What a reader has left to give.
-pub mod Reading
