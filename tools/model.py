@@ -9,7 +9,6 @@ from collections import namedtuple
 
 TABLES = ("sections", "programs", "functions", "maps", "relocations", "bytes")
 WIDTHS = {"sections": 4, "programs": 7, "functions": 7, "maps": 27, "relocations": 4, "bytes": 1}
-FUNCTION_ROWS = 2048  # what the flat call lends at most
 NONE = 0xFFFFFFFF
 TOP = 2**64 - 1
 MOST_BYTES = 16777216
@@ -359,8 +358,7 @@ def loaded(deposit, entries, patches, rewrite, room):
         c.functions = {key: f._replace(code=rewritten(f.code)) for key, f in c.functions.items()}
     rows = image(c)
     for table in TABLES:
-        lent = room[table] // WIDTHS[table]
-        need(len(rows[table]) <= (min(lent, FUNCTION_ROWS) if table == "functions" else lent), 24)
+        need(len(rows[table]) * WIDTHS[table] <= room[table], 24)
     return ("accepted", c.order, c.version, len(c.licence), *(len(rows[table]) for table in TABLES)), rows
 
 

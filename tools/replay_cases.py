@@ -1136,13 +1136,13 @@ def rooms(c):
         exact = {table: n * model.WIDTHS[table] for table, n in zip(model.TABLES, answer[4:])}
         c.expect(0, "room-bss-%d" % size, bss_of(size), room=exact)
         c.expect(24, "room-bss-%d" % size, bss_of(size), room={**exact, "bytes": exact["bytes"] - 1})
-    # as many functions as the flat call lends, and one more
-    for n in (2048, 2049):
-        d = Deposit()
-        d.section(".text", EXIT * n)
-        for k in range(n):
-            d.symbol("", 1, 8 * k, 8)
-        c.expect(0 if n == 2048 else 24, "functions-%d" % n, d, room={**c.SMALL, "functions": 7 * 2300, "bytes": 20000})
+    # many functions: what is lent decides alone
+    d = Deposit()
+    d.section(".text", EXIT * 2049)
+    for k in range(2049):
+        d.symbol("", 1, 8 * k, 8)
+    for lent in (7 * 2300, 7 * 2049 - 1):
+        c.expect(0 if lent >= 7 * 2049 else 24, "functions-2049", d, room={**c.SMALL, "functions": lent, "bytes": 20000})
 
 
 # ---- mixed

@@ -1,42 +1,54 @@
 -- What the load call answers, and what each lent list holds at the end, where the function table is lent as numbers.
-use mathlib.Core.Path.{_≡_, sym, ap, _∙_, subst}
-use mathlib.Core.List.{List, _++_}
-use Prim.Native.Nat.{ℕ, _+_, _-_, _*_, _/_, _≤_, min}
-use native.Mathlib.Omega.{arith}
-use lib.ListN.{drop, replicate, length-replicate, replicate-append-replicate}
-use lib.Seq.{drop-at}
+use mathlib.Core.Path.{_≡_, ap, _∙_}
+use mathlib.Core.Bool.{Bool}
+use mathlib.Core.List.{List}
+use Prim.Native.Nat.{ℕ, _≤_}
+use lib.ListN.{length}
 use Rattle.model.specs.declared.Answer.{Answer}
-use Rattle.model.specs.Lent.{Outcome}
-use Rattle.flat_rows.specs.Flat.{flatRows}
+use Rattle.model.specs.declared.Function.{Function}
+use Rattle.model.specs.declared.Room.{Room}
+use Rattle.model.specs.Lent.{lent, filled, Outcome, outcome, outcomeIn, loadOf}
+use Rattle.object_view.specs.declared.Opened.{Opened}
+use Rattle.deposit.specs.Open.{openedOf}
+use Rattle.load_object.specs.Done.{lentRoom, Open, symbolsOf, few-symbols, verdictIn}
+use Rattle.load_core.specs.Core.{open-deposit, deposit-outcome}
+use Rattle.flat_rows.specs.Flat.{flatRows, rowsIn}
 
--- how many rows of the function table so many numbers have room for
-abbrev pub rowsIn : ℕ → ℕ
-rowsIn n = min 2048 (n / 7)
+-- what a call leaves: its answer, and what each lent list holds
+pub record FlatOutcome : Type 0 where
+  pub reply : Answer
+  pub sections : List ℕ
+  pub programs : List ℕ
+  pub functions : List ℕ
+  pub maps : List ℕ
+  pub relocations : List ℕ
+  pub bytes : List ℕ
 
--- of the outcome o: the answer, and the lists of the lent tables and bytes at the end; behind the rows of the function table lie the numbers `behind`
-pub record FlatLoads (o : Outcome) (behind : List ℕ) (r : Answer) (s p f m l b : List ℕ) : Type 0 where
-  pub answer : r ≡ o .reply
-  pub sections : s ≡ o .lent .sections
-  pub programs : p ≡ o .lent .programs
-  pub functions : f ≡ flatRows (o .lent .functions) ++ behind
-  pub maps : m ≡ o .lent .maps
-  pub relocations : l ≡ o .lent .relocations
-  pub bytes : b ≡ o .lent .bytes
+abbrev pub flat : Answer → List ℕ → List ℕ → List ℕ → List ℕ → List ℕ → List ℕ → FlatOutcome
+flat a s p f m r b = record { reply = a; sections = s; programs = p; functions = f; maps = m; relocations = r; bytes = b }
 
-rows-fit : (n : ℕ) → rowsIn n * 7 ≤ n
-rows-fit n = omega arith
+-- that of a load's outcome, its function table as n numbers: the rows, and zeros behind
+abbrev pub flatOf : ℕ → Outcome → FlatOutcome
+flatOf n o =
+    flat (o .reply) (o .lent .sections) (o .lent .programs) (filled 0 n (flatRows (o .lent .functions))) (o .lent .maps) (o .lent .relocations) (o .lent .bytes)
 
-drop-replicate : {A : Type 0} (v : A) (k n : ℕ) → k ≤ n → drop k (replicate n v) ≡ replicate (n - k) v
-drop-replicate v k n h =
-    let e : k + (n - k) ≡ n = omega arith in
-    ap (λ (m : ℕ). drop k (replicate m v)) (sym e)
-    ∙ ap (drop k) (sym (replicate-append-replicate k (n - k) v))
-    ∙ drop-at (replicate k v) (replicate (n - k) v) k (length-replicate k v)
+-- the room that the lent lists have
+abbrev pub flatRoom : List ℕ → List ℕ → List ℕ → List ℕ → List ℕ → List ℕ → Room
+flatRoom s p f m r b = lentRoom (length s) (length p) (rowsIn (length f)) (length m) (length r) (length b)
 
--- the rows lie over zeros
-pub over-zeros : (o : ℕ → Outcome) (k n : ℕ) (t : List ℕ) (r : Answer) (s p f m l b : List ℕ) → k ≡ rowsIn n → t ≡ replicate n 0
-    → FlatLoads (o k) (drop (k * 7) t) r s p f m l b → FlatLoads (o (rowsIn n)) (replicate (n - rowsIn n * 7) 0) r s p f m l b
-over-zeros o k n t r s p f m l b e q h =
-    subst (λ (z : List ℕ). FlatLoads (o (rowsIn n)) z r s p f m l b) (drop-replicate 0 (rowsIn n * 7) n (rows-fit n))
-    (subst (λ (i : ℕ). FlatLoads (o i) (drop (i * 7) (replicate n 0)) r s p f m l b) e
-    (subst (λ (z : List ℕ). FlatLoads (o k) (drop (k * 7) z) r s p f m l b) q h))
+-- ---- a deposit that was opened
+
+module _ (d t : List ℕ) (o : Opened) (e : o ≡ openedOf d) where
+  opens : Open d t o
+  opens = rw e (open-deposit d t)
+
+  pub opens-few : (order : List ℕ) → length order ≡ 65536 → Open d t o × (symbolsOf o ≤ length order)
+  opens-few order l = (opens, rw l (few-symbols d t o opens))
+
+  -- by what the core and the loop of the rows leave
+  pub flat-loads : (entries patches : List ℕ) (on : Bool) (room : Room) (n : ℕ) (a : Answer) (s p f m r b : List ℕ) (fs : List Function)
+      → f ≡ filled 0 n (flatRows fs) → outcome a (lent s p fs m r b) ≡ outcomeIn room (verdictIn d t o entries patches on)
+      → flat a s p f m r b ≡ flatOf n (loadOf d entries patches on room)
+  flat-loads entries patches on room n a s p f m r b fs q w =
+      ap (λ (l : List ℕ). flat a s p l m r b) q
+      ∙ ap (flatOf n) (w ∙ ap (λ (x : Opened). outcomeIn room (verdictIn d t x entries patches on)) e ∙ deposit-outcome d t entries patches on room)

@@ -1,16 +1,20 @@
 // The rows of the function table as numbers, seven a row: section, address, offset, name at, name length, code at, code length.
 ghost use mathlib.Core.Path.{_≡_};
-ghost use mathlib.Core.List.{_++_};
 ghost use Prim.Native.Nat.{_+_, _*_, _≤_};
-ghost use lib.ListN.{length, drop};
+ghost use lib.ListN.{length};
 ghost use lib.Seq.{sets};
-ghost use Rattle.flat_rows.specs.Flat.{rowNumbers, flatRows};
+ghost use Rattle.model.specs.Lent.{filled};
+ghost use Rattle.function_table.specs.Rows.{ReadableRows, rowsMade};
+ghost use Rattle.flat_rows.specs.Flat.{rowNumbers, flatRows, rowsIn};
+use function_table::Rows;
+use function_table::next_row;
+use lists::zero64;
 use model::Function;
 use program_rows::put7;
 use stream::wide64;
 
 // Row i, in a table of rows.
-pub fn store_row(numbers: &mut [u64], i: usize, f: Function)
+fn store_row(numbers: &mut [u64], i: usize, f: Function)
     requires { ⌜ i * 7 + 7 ≤ length (now numbers) ⌝ }
     ensures { λ _. ⌜ now (numbers .exit) ≡ sets (now (numbers .entry)) (i * 7) (rowNumbers f) ⌝ }
 {
@@ -28,14 +32,25 @@ pub fn store_row(numbers: &mut [u64], i: usize, f: Function)
     );
 }
 
-pub fn store_rows(numbers: &mut [u64], rows: &[Function])
-    requires { ⌜ length (now rows) * 7 ≤ length (now numbers) ⌝ }
-    ensures { λ _. ⌜ now (numbers .exit) ≡ flatRows (now (rows .entry)) ++ drop (length (now (rows .entry)) * 7) (now (numbers .entry)) ⌝ }
+// As many rows as the numbers have room for, and zeros behind.
+pub fn fill_rows(numbers: &mut [u64], d: &[u8], t: &[u32], order: &[u32], rows: Rows)
+    requires { ⌜ ReadableRows (now d) (now t) rows ⌝ }
+    ensures { λ _.
+        ⌜
+        now (numbers .exit)
+        ≡ filled 0 (length (now (numbers .entry)))
+        (flatRows (rowsMade (now (d .entry)) (now (t .entry)) (now (order .entry)) 0 rows (rowsIn (length (now (numbers .entry))))))
+        ⌝ }
 {
-    let n = rows.len();
+    let n = numbers.len() / 7;
+    let mut at = rows;
     let mut i = 0;
     while i < n {
-        store_row(numbers, i, rows[i]);
+        let m = next_row(d, t, order, i, at);
+        let row = m.row;
+        store_row(numbers, i, row);
+        at = m.rest;
         i += 1;
     }
+    zero64(&mut numbers[n * 7..]);
 }

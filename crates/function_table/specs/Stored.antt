@@ -69,7 +69,7 @@ module _ (d t order : List ℕ) where
     pub rest-next : (k : ℕ) → madeAt k .rest ≡ restMade 0 rows (k + 1)
     rest-next k = rw (add-one k, rest-last 0 rows k, zero-add k)
 
-    rows-next : (k : ℕ) → rowsMade d t order 0 rows (k + 1) ≡ rowsMade d t order 0 rows k ++ (madeAt k .row ∷ [])
+    pub rows-next : (k : ℕ) → rowsMade d t order 0 rows (k + 1) ≡ rowsMade d t order 0 rows k ++ (madeAt k .row ∷ [])
     rows-next k = rw (add-one k, rows-last 0 rows k, zero-add k)
 
     module _ (fs : List Function) where

@@ -6,7 +6,7 @@ ghost use Prim.Native.Nat.{_+_, _*_, _≤_};
 ghost use lib.ListN.{length, take};
 ghost use Rattle.io.specs.Counts.{Counts};
 ghost use Rattle.model.specs.Listing.{tooLong, listingOf};
-ghost use Rattle.listing.specs.Numbers.{roomOf};
+ghost use Rattle.flat.specs.Loads.{flatRoom};
 ghost use Rattle.lines.specs.Laid.{Laid};
 use flat::load_flat;
 use libc::STDIN_FILENO;
@@ -44,11 +44,15 @@ fn list(
         ⌜
         Counts r (now (out .exit))
         × Laid 0
-        (listingOf (roomOf (now (sections .entry)) (now (programs .entry)) (now (functions .entry)) (now (maps .entry)) (now (relocations .entry)) (now (bytes .entry))) (now (d .entry)))
+        (listingOf
+        (flatRoom (now (sections .entry)) (now (programs .entry)) (now (functions .entry))
+        (now (maps .entry)) (now (relocations .entry)) (now (bytes .entry)))
+        (now (d .entry)))
         (now (out .entry)) r (now (out .exit))
         × (take r (now (out .exit))
         ≡ listingOf
-        (roomOf (now (sections .entry)) (now (programs .entry)) (now (functions .entry)) (now (maps .entry)) (now (relocations .entry)) (now (bytes .entry)))
+        (flatRoom (now (sections .entry)) (now (programs .entry)) (now (functions .entry))
+        (now (maps .entry)) (now (relocations .entry)) (now (bytes .entry)))
         (now (d .entry)))
         ⌝ }
 {

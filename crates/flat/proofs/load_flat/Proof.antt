@@ -1,25 +1,38 @@
 -- `flat::load_flat` meets its contract.
+use mathlib.Core.List.{[]}
 use Prim.Native.Nat.{ℕ}
-use lib.ListN.{length}
 use denote.Ref.{now}
+use lib.ListN.{length, replicate, length-replicate}
+use Rattle.function_table.specs.Rows.{rowsMade}
+use Rattle.flat_rows.specs.Flat.{rowsIn}
+use Rattle.flat.specs.Loads.{flatRoom, opens-few, flat-loads}
 use borrow.Author.Needs.{needs}
-use Rattle.model.specs.Lent.{loadOf}
-use Rattle.load_object.specs.Done.{lentRoom}
-use Rattle.flat.specs.Loads.{over-zeros}
 use Rattle.flat.proofs.load_flat.Statement.{statement}
 use Rattle.flat.proofs.load_flat.Tie as tie
 
-rows-in-requires : tie.Need-rows-in-requires
-rows-in-requires c κs = search needs
+open-requires : tie.Need-open-requires
+open-requires c κs = search needs
 
-zero64-requires : tie.Need-zero64-requires
-zero64-requires c κs = search needs
+slice-aggregate-load-core : tie.Need-slice-aggregate-load-core
+slice-aggregate-load-core c = search needs
 
-zero-row-requires : tie.Need-zero-row-requires
-zero-row-requires c κs = search needs
+slice-aggregate-load-core-2 : tie.Need-slice-aggregate-load-core-2
+slice-aggregate-load-core-2 c = search needs
 
-load-rows-requires : tie.Need-load-rows-requires
-load-rows-requires c κs = search needs
+load-core-requires : tie.Need-load-core-requires
+load-core-requires c κs =
+    let o = c .before .before .before .before .before .before .before in
+    let a = o .before .before .before .before .before .before .before .before .before .before .args in
+    opens-few (now (a .d)) [] (o .«open» .result) (o .«open» .ensures) (replicate 65536 0) (length-replicate {A = ℕ} 65536 0)
+
+slice-aggregate-fill-rows : tie.Need-slice-aggregate-fill-rows
+slice-aggregate-fill-rows c = search needs
+
+slice-aggregate-fill-rows-2 : tie.Need-slice-aggregate-fill-rows-2
+slice-aggregate-fill-rows-2 c = search needs
+
+fill-rows-requires : tie.Need-fill-rows-requires
+fill-rows-requires c κs = search needs
 
 same-length : tie.Need-same-length
 same-length c = search needs
@@ -41,21 +54,27 @@ same-length-6 c = search needs
 
 returns : tie.Need-returns
 returns c =
-    let a = c .before .before .before .before .before .before .before .before .before .before .before .before .before .before .before .before .before .before .before .before .before .before .before .before .before .before .before .before .before .before .before .before .before .before .args in
-    let loads = c .before .before .before .before .before .before .before .before .before .before .before .before .load-rows in
-    let zeros = c .before .before .before .before .before .before .before .before .before .before .before .before .before .before .before .before .before .before .before .before .before .before .zero64 in
-    let room = c .before .before .before .before .before .before .before .before .before .before .before .before .before .before .before .before .before .before .before .before .before .before .before .before .rows-in in
-    over-zeros (λ (k : ℕ). loadOf (now (a .d)) (now (a .entries)) (now (a .patches)) (a .rewrite) (lentRoom (length (now (a .sections))) (length (now (a .programs))) k (length (now (a .maps))) (length (now (a .relocations))) (length (now (a .bytes)))))
-    (room .result) _ (zeros .last .0) (loads .result) _ _ _ _ _ _ (room .ensures) (zeros .ensures) (loads .ensures)
+    let f = c .before .before .fill-rows in
+    let h = c .before .before .before .before .before .before .before .before .before .before .before .before .before .before .before .before .before .before in
+    let k = h .load-core in
+    let o = h .before .before .before .before .before .before .before .before in
+    let a = o .before .before .before .before .before .before .before .before .before .before .args in
+    flat-loads (now (a .d)) [] (o .«open» .result) (o .«open» .ensures) (now (a .entries)) (now (a .patches)) (a .rewrite)
+    (flatRoom (now (a .sections)) (now (a .programs)) (now (a .functions)) (now (a .maps)) (now (a .relocations)) (now (a .bytes)))
+    (length (now (a .functions))) (k .result .answer) (k .last .1 .1 .1 .1 .1 .1 .1 .0) (k .last .1 .1 .1 .1 .1 .1 .1 .1 .0) (f .last .0) (k .last .1 .1 .1 .1 .1 .1 .1 .1 .1 .0) (k .last .1 .1 .1 .1 .1 .1 .1 .1 .1 .1 .0) (k .last .1 .1 .1 .1 .1 .1 .1 .1 .1 .1 .1 .0)
+    (rowsMade (now (a .d)) [] (k .last .1 .1 .1 .1 .1 .1 .1 .1 .1 .1 .1 .1 .0) 0 (k .result .rows) (rowsIn (length (now (a .functions))))) (f .ensures) (k .ensures .0)
 
 pub load-flat-spec : {M : Type 1} → statement M
 load-flat-spec =
     tie.close
     (tie.spec
-    rows-in-requires
-    zero64-requires
-    zero-row-requires
-    load-rows-requires
+    open-requires
+    slice-aggregate-load-core
+    slice-aggregate-load-core-2
+    load-core-requires
+    slice-aggregate-fill-rows
+    slice-aggregate-fill-rows-2
+    fill-rows-requires
     same-length
     same-length-2
     same-length-3

@@ -8,11 +8,12 @@ use denote.Ref.{now}
 use lib.ListN.{length}
 use Rattle.model.specs.declared.Answer.{Answer}
 use Rattle.model.specs.Bytes.{AllBytes}
-use Rattle.model.specs.Lent.{loadOf}
+use Rattle.model.specs.Lent.{Outcome, loadOf}
 use Rattle.model.specs.declared.Room.{Room}
 use Rattle.model.specs.Listing.{refusalText, listingOf}
 use Rattle.encoding.specs.Code.{all-bytes}
-use Rattle.listing.specs.Numbers.{roomOf, flat-of}
+use Rattle.flat.specs.Loads.{flatRoom}
+use Rattle.listing.specs.Numbers.{flat-answer, flat-tables}
 use Rattle.lines.specs.Laid.{same-text, whole-text}
 use Rattle.listing.specs.Bound.{refusal-most}
 use Rattle.listing.specs.Text.{answer-fits, answer-text, text-most, long-text, short-text}
@@ -59,7 +60,12 @@ put-answer-requires : tie.Need-put-answer-requires
 put-answer-requires c κs =
     let f = c .before .before .before .before .before .before .before .before .before .before .before .before .before .before .before .before .before in
     let a = f .before .before .before .before .before .before .before .before .before .before .before .before .before .before .before .before .before .before .args in
-    (omega arith, answer-fits (now (a .d)) [] [] false (roomOf (now (a .sections)) (now (a .programs)) (now (a .functions)) (now (a .maps)) (now (a .relocations)) (now (a .bytes))) _ _ _ _ (flat-of (f .load-flat .ensures)) (f .load-flat .result) (f .load-flat .ensures .answer))
+    let d : List ℕ = now (a .d) in
+    let room : Room = flatRoom (now (a .sections)) (now (a .programs)) (now (a .functions)) (now (a .maps)) (now (a .relocations)) (now (a .bytes)) in
+    let o : Outcome = loadOf d [] [] false room in
+    let r : Answer = f .load-flat .result in
+    let n : ℕ = length (now (a .functions)) in
+    (omega arith, answer-fits d [] [] false room _ _ _ _ (flat-tables n o r _ _ _ _ _ _ (f .load-flat .ensures)) r (flat-answer n o r _ _ _ _ _ _ (f .load-flat .ensures)))
 
 same-length-2 : tie.Need-same-length-2
 same-length-2 c = search needs
@@ -90,10 +96,12 @@ returns-2 c =
     let s = i .before .before .before .before .before .before .before .before .before in
     let a = s .args in
     let d : List ℕ = now (a .d) in
-    let room : Room = roomOf (now (a .sections)) (now (a .programs)) (now (a .functions)) (now (a .maps)) (now (a .relocations)) (now (a .bytes)) in
+    let room : Room = flatRoom (now (a .sections)) (now (a .programs)) (now (a .functions)) (now (a .maps)) (now (a .relocations)) (now (a .bytes)) in
     let r : Answer = f .load-flat .result in
-    let e : r ≡ loadOf d [] [] false room .reply = f .load-flat .ensures .answer in
-    let t = answer-text d [] [] false room _ _ _ _ (flat-of (f .load-flat .ensures)) r e ∙ sym (short-text room d (i .if1 .left)) in
+    let o : Outcome = loadOf d [] [] false room in
+    let n : ℕ = length (now (a .functions)) in
+    let e : r ≡ o .reply = flat-answer n o r _ _ _ _ _ _ (f .load-flat .ensures) in
+    let t = answer-text d [] [] false room _ _ _ _ (flat-tables n o r _ _ _ _ _ _ (f .load-flat .ensures)) r e ∙ sym (short-text room d (i .if1 .left)) in
     let small : AllBytes d = all-bytes d (λ k. i .before .before .before .before .before .before .before .before .shared-slice-known .given k .fits) in
     let m : length (listingOf room d) ≤ room .bytes + 10 * room .programs + 73 * room .functions + 3 * room .maps + 71 = rw (short-text room d (i .if1 .left)) (text-most d [] [] false room small r e) in
     let l = same-text t (p .put-answer .ensures) in
