@@ -13,6 +13,7 @@ use records::head;
 use rules::Checked;
 use rules::check_sections;
 use rules::head_ok;
+use rules::names_ok;
 use rules::relocations_ok;
 use rules::rest_ok;
 use rules::symbols_ok;
@@ -35,13 +36,14 @@ fn check_stream(d: &[u8], h: Head) -> Checked
     if !rest_ok(d, h) {
         return Checked::Broken;
     }
-    if !symbols_ok(d, h) {
+    let clean = names_ok(d, h);
+    if !symbols_ok(d, h, clean) {
         return Checked::Broken;
     }
     if !relocations_ok(d, h) {
         return Checked::Broken;
     }
-    check_sections(d, h)
+    check_sections(d, h, clean)
 }
 
 fn refused(number: u32) -> Opened
