@@ -1,9 +1,11 @@
-# What the generators share: MIR names a file with the output of `rt mir load`, OUT the crate's folder.
+# What the generators share: MIR names a file with the output of `rt mir CRATE`, OUT the crate's folder, FIRST a function of the signature that is walked.
 import sys, os
 sys.dont_write_bytecode = True
 from walkgen import *
 MIR = os.environ['MIR']
 OUT = os.environ['OUT']
+CRATE = os.environ['CRATE']
+FIRST = os.environ['FIRST']
 V = lambda v, k: v + sub(k)
 def den(r): return 'Function' if r == 'T.the-row' else 'ℕ'
 def prodT(ts): return 'Unit {0}' if not ts else '%s × (%s)' % (ts[0], prodT(ts[1:])) if len(ts) > 1 else '%s × Unit {0}' % ts[0]

@@ -1,9 +1,9 @@
 from common import *
 from heads import HEADS
 S = INNER
-fa = fn_of(MIR, 'load::load_more')
+fa = fn_of(MIR, 'load_opened::load_more')
 b = fa[5]; call0 = b[1]; cond = b[2][1]; tail = stmts(b[2][2])
-NAMES = {'load::is_medium': 'test', 'load::load_medium': 'one', 'load::load_large': 'two'}
+NAMES = {'load_opened::is_medium': 'test', 'load_opened::load_2048': 'one', 'load_opened::load_65536': 'two'}
 def seqs(ss, pad, close):
     out = ''
     for k, s in enumerate(ss):

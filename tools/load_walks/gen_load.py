@@ -182,7 +182,7 @@ load-spec 𝓤 H 𝓜 𝓖 𝓡 =
     (tables 𝓤 H 𝓜 𝓡 code.env .C) (tables 𝓤 H 𝓜 𝓡 code.env .Λ) #load code.function (code.unfolded 𝓤 H 𝓜 𝓡)
     (load-meets 𝓤 H (𝓖 .A) (givenOf 𝓤 H 𝓜 𝓖) (𝓜 .mem) (𝓡 .run) (tablesOf 𝓤 H 𝓜 (tables 𝓤 H 𝓜 𝓡 code.env))
     (cited 𝓤 H (Opens 𝓤 H (𝓖 .A) (𝓜 .mem) (𝓡 .run)) 𝓜 𝓡 code.env #open open-def.routine code.calls-deposit·open (open-thm.met 𝓤 H 𝓜 𝓖 𝓡))
-    (cited 𝓤 H (Whole 𝓤 H (𝓖 .A) (𝓜 .mem) (𝓡 .run)) 𝓜 𝓡 code.env #load-opened whole-def.routine code.calls-load·load-opened (whole-thm.met 𝓤 H 𝓜 𝓖 𝓡)))
+    (cited 𝓤 H (Whole 𝓤 H (𝓖 .A) (𝓜 .mem) (𝓡 .run)) 𝓜 𝓡 code.env #load-opened whole-def.routine code.calls-load-opened·load-opened (whole-thm.met 𝓤 H 𝓜 𝓖 𝓡)))
 '''
 H = HEADS
 T = '-- `load::load` meets its contract: a walk of its MIR, by hand. The deposit is opened, and all that is lent is handed on to `load_opened`, with an empty index.\n' + uses(body, H) + '\n\n' + body

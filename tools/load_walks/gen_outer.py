@@ -8,7 +8,7 @@ body = '''-- what was opened can be read, and has at most B symbols
 abbrev pub AtMost : ℕ → List ℕ → List ℕ → Opened → Type 0
 AtMost B d t o = Open d t o × (symbolsOf o ≤ B)
 
--- each has the signature of `load_small`
+-- each has the signature of `@FIRST`
 abbrev stayed : Stays (load′.ended .signature .params) (load′.ended .kept)
 stayed = %s
 
@@ -50,4 +50,4 @@ body += f'''  module _ {S.KQX} where
       (λ κs qs bounds a g are. needs 𝓤 (Asks (a .0 .now) (a .1 .0 .now) (a .1 .1 .0)) _ (walk {S.applied()})))
 '''
 T = '-- The outside of each function that loads what was opened: one contract, but for what it asks of that (`Asks`), and how a walk\'s end, at any function of this signature, meets it. Assumes `Given`.\n' + uses(body, [h for h in HEADS if '.Outer' not in h]) + '\n\n' + body
-open(OUT + '/proofs/Outer.antt', 'w').write(T)
+open(OUT + '/proofs/Outer.antt', 'w').write(T.replace('@FIRST', FIRST))

@@ -1,14 +1,14 @@
 from common import *
 from heads import HEADS
 S = INNER
-fn = fn_of(MIR, 'load::load_small'); SS = stmts(fn[5])
+fn = fn_of(MIR, 'load_opened::load_64'); SS = stmts(fn[5])
 NAMES = {'load_core::load_core': '#load-core', 'function_table::fill': '#fill'}
 MIRT = locals_text(fn, ['abbrev locals : ℕ → List Local', 'locals N ='])
 CUT = next(k for k, x in enumerate(SS) if x[0] == 'call') + 1
 def body_text(name, ss, last):
     out = 'abbrev %s : ℕ → Operand → Body\n%s N len =\n' % (name, name)
     n = len(ss) - (last is None)
-    for x in ss[:n]: out += '    seq (%s) (\n' % mst(x, NAMES, '128')
+    for x in ss[:n]: out += '    seq (%s) (\n' % mst(x, NAMES, '64')
     return out + '    ' + (last or mst(ss[-1], NAMES)) + ')' * n + '\n'
 MIRT += '\n\n-- what is left behind the call of `load_core`\n' + body_text('tail', SS[CUT:], None) + '\n' + body_text('body', SS[:CUT], 'tail N len')
 MIRT += '''
@@ -21,7 +21,7 @@ flat = lst([V('s', p[0]) if p[2] in ('shr', 'mut') else S.flatv(p) for p in S.P]
 c = Ctx(['Toks', 'Owns'])
 c.out.append(c.pad + 'qed W (Toks ∷ ‵ (owns (%s) a vals) ∷ []) ∵ enter ! C Λ (function N len) (%s) _ $' % (S.tys, flat))
 c.enter(fn, None); S.passes(c)
-c.lits = {'128': '(const 𝓤 H A W says-N !)'}; c.litfits = {'128': 'N-room .0'}; c.repn = 'N'
+c.lits = {'64': '(const 𝓤 H A W says-N !)'}; c.litfits = {'64': 'N-room .0'}; c.repn = 'N'
 AR = 14
 i = 0
 while SS[i][0] == 'assign':

@@ -1,3 +1,4 @@
+import os
 HEADS = '''use mathlib.Core.Path.{_≡_, refl, sym, _∙_, ap, subst}
 use mathlib.Core.Bool.{Bool}
 use Prim.Native.Nat.{ℕ, _≤_}
@@ -52,13 +53,13 @@ use Rattle.function_table.specs.Rows.{ReadableRows, rowsMade}
 use Rattle.load_object.specs.declared.Loaded.{Loaded}
 use Rattle.load_object.specs.Done.{lentRoom, Open, symbolsOf, verdictIn, CoreDone}
 use Rattle.load_core.specs.Core.{open-deposit, deposit-outcome}
-use Rattle.load.specs.Loads.{Loads}
-use Rattle.load.proofs.Again.{LentAgain, lends-again, comes-back}
-use Rattle.load.proofs.Shared.{shares-all}
-use Rattle.load.proofs.Outer as outer
-use Rattle.load.proofs.Outer.{AtMost}
-use Rattle.load.proofs.Scratch.{Const, const, zeros, length-zeros, zeros-is, zeros-room, scratch-room}
-use Rattle.load.proofs.Slot.{lends-array, array-room}
+use @SPECS.Loads.{Loads}
+use Rattle·@CRATE·proofs.proofs.Again.{LentAgain, lends-again, comes-back}
+use @SPECS.Shared.{shares-all}
+use Rattle·@CRATE·proofs.proofs.Outer as outer
+use Rattle·@CRATE·proofs.proofs.Outer.{AtMost}
+use Rattle·@CRATE·proofs.proofs.Scratch.{Const, const, zeros, length-zeros, zeros-is, zeros-room, scratch-room}
+use @SPECS.Slot.{lends-array, array-room}
 use Rattle.model.proofs.Function as T
 use Rattle.model.proofs.Function.Laws as T′
 use Rattle.model.proofs.Answer as F
@@ -77,13 +78,14 @@ use Rattle.deposit.proofs.open as opening
 use Rattle.deposit.proofs.open.Symbol as open-def
 use Rattle.deposit.proofs.open.Symbol.{name as #open}
 use Rattle.deposit.proofs.open.Met as open-thm
-use Rattle.load.proofs.is_small as small
-use Rattle.load.proofs.load_small as load′
-use Rattle.load.proofs.load_opened as whole′
-use Rattle.load.proofs.load_opened.Symbol as whole-def
-use Rattle.load.proofs.load_opened.Symbol.{name as #load-opened}
-use Rattle.load.proofs.load_opened.Met as whole-thm
+use Rattle.load_opened.proofs.is_small as small
+use Rattle·@CRATE·proofs.proofs.@FIRST as load′
+use Rattle.load_opened.proofs.load_opened as whole′
+use Rattle.load_opened.proofs.load_opened.Symbol as whole-def
+use Rattle.load_opened.proofs.load_opened.Symbol.{name as #load-opened}
+use Rattle.load_opened.proofs.load_opened.Met as whole-thm
 use Rattle.load.proofs.load.Key.{name as #load}
 use Rattle.load.proofs.load as f
 use Rattle.load.proofs.load.Statement as stated
-use Rattle.load.proofs.load.Code as code'''.split('\n')
+use Rattle.load.proofs.load.Code as code'''.replace('@CRATE', os.environ['CRATE']).replace('@FIRST', os.environ['FIRST']).replace(
+    '@SPECS', 'Rattle.load_opened.specs' if os.environ['CRATE'] == 'load_opened' else 'Rattle.load_opened.specs').split('\n')

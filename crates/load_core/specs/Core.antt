@@ -26,27 +26,6 @@ use Rattle.load_object.specs.declared.Loaded.{Loaded}
 use Rattle.load_object.specs.Core.{Scratch, refusedBy, refused-loads}
 use Rattle.load_object.specs.Done.{lentRoom, Open, verdictIn, CoreDone, FrontDone}
 
--- the arrays, by their lengths
-pub scratch-of : (v : View) (s p f m a b : List ℕ) (i j k g h : ℕ) → length s ≡ i → length p ≡ j → length m ≡ k → length a ≡ g → length b ≡ h → length f ≡ v .symbols → v .symbols ≤ 65536
-    → (v .sections ≤ i) × (v .symbols ≤ j) × (v .sections + v .symbols ≤ k) × (v .sections + v .symbols ≤ g) × (v .relocations ≤ g) × (v .sections ≤ h) × (v .symbols ≤ h) × (v .relocations ≤ h)
-    × (i ≤ 69632) × (j ≤ 69632) × (k ≤ 69632) → Scratch v s p f m a b
-scratch-of v s p f m a b i j k g h ls lp lm la lb lf few w =
-    record {
-      sections = rw ls (w .0);
-      programs = rw lp (w .1);
-      functions = omega arith;
-      maps = rw lm (w .2);
-      first = rw la (w .3);
-      first-relocations = rw la (w .4);
-      second-sections = rw lb (w .5);
-      second-symbols = rw lb (w .6);
-      second-relocations = rw lb (w .7);
-      most-sections = rw ls (w .8);
-      most-programs = rw lp (w .9);
-      most-functions = omega arith;
-      most-maps = rw lm (w .10);
-    }
-
 -- n and r numbers are enough
 pub few-both : (v : View) (n r : ℕ) (b : Bool) → b ≡ (leb (v .sections + v .symbols) n && leb (v .relocations) r) → b ≡ true → (v .sections + v .symbols ≤ n) × (v .relocations ≤ r)
 few-both v n r b e f =

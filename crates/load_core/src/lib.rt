@@ -10,171 +10,15 @@ ghost use Rattle.model.specs.Patching.{load};
 ghost use Rattle.records.specs.Readable.{Readable};
 ghost use Rattle.view.specs.View.{objectIn};
 ghost use Rattle.load_object.specs.Done.{lentRoom, Open, symbolsOf, verdictIn, CoreDone, FrontDone};
+use load_large::load_4096;
+use load_large::load_65536;
 use load_object::Loaded;
-use load_object::load_object;
 use load_object::refuse;
+use load_small::load_64;
+use load_small::load_512;
 use object_view::Opened;
 use object_view::View;
 use stream::size;
-
-// For at most 128 sections and symbols, and 512 relocations.
-fn load_small(
-    d: &[u8],
-    t: &[u32],
-    v: View,
-    entries: &[u64],
-    patches: &[u8],
-    rewrite: bool,
-    rows: usize,
-    sections: &mut [u64],
-    programs: &mut [u64],
-    maps: &mut [u64],
-    relocations: &mut [u64],
-    bytes: &mut [u8],
-    f: &mut [u32],
-) -> Loaded
-    requires { ⌜ (v .sections + v .symbols ≤ 128) × (v .relocations ≤ 512) × Readable (now d) (now t) v × (length (now f) ≡ v .symbols) ⌝ }
-    ensures { λ r.
-        ⌜
-        FrontDone (now (d .entry)) (now (t .entry)) rows
-        (outcomeIn
-        (lentRoom (length (now (sections .entry))) (length (now (programs .entry))) rows (length (now (maps .entry))) (length (now (relocations .entry))) (length (now (bytes .entry))))
-        (load (objectIn (now (d .entry)) (now (t .entry)) v) (patchesOf (now (entries .entry)) (now (patches .entry))) rewrite))
-        r (now (sections .exit)) (now (programs .exit)) (now (maps .exit)) (now (relocations .exit)) (now (bytes .exit)) (now (f .exit))
-        ⌝ }
-{
-    let mut s = [0u32; 128];
-    let mut p = [0u32; 128];
-    let mut m = [0u32; 128];
-    let mut a = [0u32; 512];
-    let mut b = [0u32; 512];
-    load_object(
-        d,
-        t,
-        v,
-        entries,
-        patches,
-        rewrite,
-        rows,
-        sections,
-        programs,
-        maps,
-        relocations,
-        bytes,
-        &mut s,
-        &mut p,
-        f,
-        &mut m,
-        &mut a,
-        &mut b,
-    )
-}
-
-// For at most 2,048 and 8,192.
-fn load_medium(
-    d: &[u8],
-    t: &[u32],
-    v: View,
-    entries: &[u64],
-    patches: &[u8],
-    rewrite: bool,
-    rows: usize,
-    sections: &mut [u64],
-    programs: &mut [u64],
-    maps: &mut [u64],
-    relocations: &mut [u64],
-    bytes: &mut [u8],
-    f: &mut [u32],
-) -> Loaded
-    requires { ⌜ (v .sections + v .symbols ≤ 2048) × (v .relocations ≤ 8192) × Readable (now d) (now t) v × (length (now f) ≡ v .symbols) ⌝ }
-    ensures { λ r.
-        ⌜
-        FrontDone (now (d .entry)) (now (t .entry)) rows
-        (outcomeIn
-        (lentRoom (length (now (sections .entry))) (length (now (programs .entry))) rows (length (now (maps .entry))) (length (now (relocations .entry))) (length (now (bytes .entry))))
-        (load (objectIn (now (d .entry)) (now (t .entry)) v) (patchesOf (now (entries .entry)) (now (patches .entry))) rewrite))
-        r (now (sections .exit)) (now (programs .exit)) (now (maps .exit)) (now (relocations .exit)) (now (bytes .exit)) (now (f .exit))
-        ⌝ }
-{
-    let mut s = [0u32; 2048];
-    let mut p = [0u32; 2048];
-    let mut m = [0u32; 2048];
-    let mut a = [0u32; 8192];
-    let mut b = [0u32; 8192];
-    load_object(
-        d,
-        t,
-        v,
-        entries,
-        patches,
-        rewrite,
-        rows,
-        sections,
-        programs,
-        maps,
-        relocations,
-        bytes,
-        &mut s,
-        &mut p,
-        f,
-        &mut m,
-        &mut a,
-        &mut b,
-    )
-}
-
-// For as many as there may be.
-fn load_large(
-    d: &[u8],
-    t: &[u32],
-    v: View,
-    entries: &[u64],
-    patches: &[u8],
-    rewrite: bool,
-    rows: usize,
-    sections: &mut [u64],
-    programs: &mut [u64],
-    maps: &mut [u64],
-    relocations: &mut [u64],
-    bytes: &mut [u8],
-    f: &mut [u32],
-) -> Loaded
-    requires { ⌜ Readable (now d) (now t) v × (length (now f) ≡ v .symbols) ⌝ }
-    ensures { λ r.
-        ⌜
-        FrontDone (now (d .entry)) (now (t .entry)) rows
-        (outcomeIn
-        (lentRoom (length (now (sections .entry))) (length (now (programs .entry))) rows (length (now (maps .entry))) (length (now (relocations .entry))) (length (now (bytes .entry))))
-        (load (objectIn (now (d .entry)) (now (t .entry)) v) (patchesOf (now (entries .entry)) (now (patches .entry))) rewrite))
-        r (now (sections .exit)) (now (programs .exit)) (now (maps .exit)) (now (relocations .exit)) (now (bytes .exit)) (now (f .exit))
-        ⌝ }
-{
-    let mut s = [0u32; 4096];
-    let mut p = [0u32; 65536];
-    let mut m = [0u32; 69632];
-    let mut a = [0u32; 69632];
-    let mut b = [0u32; 65536];
-    load_object(
-        d,
-        t,
-        v,
-        entries,
-        patches,
-        rewrite,
-        rows,
-        sections,
-        programs,
-        maps,
-        relocations,
-        bytes,
-        &mut s,
-        &mut p,
-        f,
-        &mut m,
-        &mut a,
-        &mut b,
-    )
-}
 
 // Tells whether n numbers are enough for the sections with the symbols, and r for the relocations.
 fn few(v: View, n: usize, r: usize) -> bool
@@ -186,7 +30,7 @@ fn few(v: View, n: usize, r: usize) -> bool
     size(v.relocations) <= r
 }
 
-// The arrays are as large as the counts of records ask, so that none is cleared in vain: for step 2 small, for 1 medium, for 0 large ones.
+// The arrays are as large as the counts of records ask: step 3 tries the smallest, 0 takes the largest.
 // It calls itself, so that the compiler gives each size a frame of its own.
 fn load_sized(
     d: &[u8],
@@ -215,7 +59,7 @@ fn load_sized(
         ⌝ }
 {
     if step == 0 {
-        return load_large(
+        return load_65536(
             d,
             t,
             v,
@@ -232,8 +76,8 @@ fn load_sized(
         );
     }
     if step == 1 {
-        if few(v, 2048, 8192) {
-            return load_medium(
+        if few(v, 4096, 16384) {
+            return load_4096(
                 d,
                 t,
                 v,
@@ -249,9 +93,29 @@ fn load_sized(
                 f,
             );
         }
-    } else {
-        if few(v, 128, 512) {
-            return load_small(
+    }
+    if step == 2 {
+        if few(v, 512, 2048) {
+            return load_512(
+                d,
+                t,
+                v,
+                entries,
+                patches,
+                rewrite,
+                rows,
+                sections,
+                programs,
+                maps,
+                relocations,
+                bytes,
+                f,
+            );
+        }
+    }
+    if step == 3 {
+        if few(v, 64, 128) {
+            return load_64(
                 d,
                 t,
                 v,
@@ -330,7 +194,7 @@ pub fn load_core(
                 relocations,
                 bytes,
                 &mut order[0..y],
-                2,
+                3,
             )
         }
     }

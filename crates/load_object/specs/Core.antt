@@ -89,6 +89,27 @@ pub record Scratch (v : View) (s p f m a b : List ℕ) : Type 0 where
   pub most-functions : length f ≤ 65536
   pub most-maps : length m ≤ 69632
 
+-- the arrays, by their lengths
+pub scratch-of : (v : View) (s p f m a b : List ℕ) (i j k g h : ℕ) → length s ≡ i → length p ≡ j → length m ≡ k → length a ≡ g → length b ≡ h → length f ≡ v .symbols → v .symbols ≤ 65536
+    → (v .sections ≤ i) × (v .symbols ≤ j) × (v .sections + v .symbols ≤ k) × (v .sections + v .symbols ≤ g) × (v .relocations ≤ g) × (v .sections ≤ h) × (v .symbols ≤ h) × (v .relocations ≤ h)
+    × (i ≤ 69632) × (j ≤ 69632) × (k ≤ 69632) → Scratch v s p f m a b
+scratch-of v s p f m a b i j k g h ls lp lm la lb lf few w =
+    record {
+      sections = rw ls (w .0);
+      programs = rw lp (w .1);
+      functions = omega arith;
+      maps = rw lm (w .2);
+      first = rw la (w .3);
+      first-relocations = rw la (w .4);
+      second-sections = rw lb (w .5);
+      second-symbols = rw lb (w .6);
+      second-relocations = rw lb (w .7);
+      most-sections = rw ls (w .8);
+      most-programs = rw lp (w .9);
+      most-functions = omega arith;
+      most-maps = rw lm (w .10);
+    }
+
 -- an outcome by its parts
 pub outcome-parts : (o : Outcome) (r : Answer) (s p : List ℕ) (f : List Function) (m l b : List ℕ) → r ≡ o .reply → s ≡ o .lent .sections → p ≡ o .lent .programs
     → f ≡ o .lent .functions → m ≡ o .lent .maps → l ≡ o .lent .relocations → b ≡ o .lent .bytes → outcome r (lent s p f m l b) ≡ o

@@ -48,9 +48,9 @@ use Rattle.object_view.specs.declared.Opened.{Opened}
 use Rattle.deposit.specs.Open.{openedOf}
 use Rattle.load_object.specs.Done.{lentRoom, Open, verdictIn}
 use Rattle.load_core.specs.Core.{open-deposit, deposit-outcome}
-use Rattle.load.specs.Loads.{Loads}
-use Rattle.load.proofs.Shared.{shares-all}
-use Rattle.load.proofs.Slot.{lends-array, array-room}
+use Rattle.load_opened.specs.Loads.{Loads}
+use Rattle.load_opened.specs.Shared.{shares-all}
+use Rattle.load_opened.specs.Slot.{lends-array, array-room}
 use Rattle.model.proofs.Function as T
 use Rattle.model.proofs.Answer as F
 use Rattle.model.proofs.Answer.Laws as F′
@@ -60,10 +60,10 @@ use Rattle.deposit.proofs.open as opening
 use Rattle.deposit.proofs.open.Symbol as open-def
 use Rattle.deposit.proofs.open.Symbol.{name as #open}
 use Rattle.deposit.proofs.open.Met as open-thm
-use Rattle.load.proofs.load_opened as whole′
-use Rattle.load.proofs.load_opened.Symbol as whole-def
-use Rattle.load.proofs.load_opened.Symbol.{name as #load-opened}
-use Rattle.load.proofs.load_opened.Met as whole-thm
+use Rattle.load_opened.proofs.load_opened as whole′
+use Rattle.load_opened.proofs.load_opened.Symbol as whole-def
+use Rattle.load_opened.proofs.load_opened.Symbol.{name as #load-opened}
+use Rattle.load_opened.proofs.load_opened.Met as whole-thm
 use Rattle.load.proofs.load.Key.{name as #load}
 use Rattle.load.proofs.load as f
 use Rattle.load.proofs.load.Statement as stated
@@ -241,4 +241,4 @@ load-spec 𝓤 H 𝓜 𝓖 𝓡 =
     (tables 𝓤 H 𝓜 𝓡 code.env .C) (tables 𝓤 H 𝓜 𝓡 code.env .Λ) #load code.function (code.unfolded 𝓤 H 𝓜 𝓡)
     (load-meets 𝓤 H (𝓖 .A) (givenOf 𝓤 H 𝓜 𝓖) (𝓜 .mem) (𝓡 .run) (tablesOf 𝓤 H 𝓜 (tables 𝓤 H 𝓜 𝓡 code.env))
     (cited 𝓤 H (Opens 𝓤 H (𝓖 .A) (𝓜 .mem) (𝓡 .run)) 𝓜 𝓡 code.env #open open-def.routine code.calls-deposit·open (open-thm.met 𝓤 H 𝓜 𝓖 𝓡))
-    (cited 𝓤 H (Whole 𝓤 H (𝓖 .A) (𝓜 .mem) (𝓡 .run)) 𝓜 𝓡 code.env #load-opened whole-def.routine code.calls-load·load-opened (whole-thm.met 𝓤 H 𝓜 𝓖 𝓡)))
+    (cited 𝓤 H (Whole 𝓤 H (𝓖 .A) (𝓜 .mem) (𝓡 .run)) 𝓜 𝓡 code.env #load-opened whole-def.routine code.calls-load-opened·load-opened (whole-thm.met 𝓤 H 𝓜 𝓖 𝓡)))

@@ -1,7 +1,0 @@
-pub mod Again
-pub mod Choice
-pub mod Outer
-pub mod Scratch
-pub mod Shared
-pub mod Sized
-pub mod Slot

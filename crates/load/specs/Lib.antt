@@ -1,2 +1,0 @@
--- What the contract of `load` cites.
-pub mod Loads
