@@ -12,6 +12,7 @@ TOP = os.path.join(os.path.dirname(os.path.realpath(__file__)), "..")
 RT = """#!/bin/sh
 [ "$*" = "check listing" ] || exit 2
 mkdir -p target/log target/bin
+sleep 0.1
 : >target/log/lists.out
 sleep 2.5
 echo 'rt: lists proved (2 s)' | tee target/log/lists.out
