@@ -135,10 +135,12 @@ pub extern "C" fn buncoyew_load(
 )
     ensures { λ _.
         ⌜
-        call (now (answer .exit)) (lent (now (sections .exit)) (now (programs .exit)) (now (functions .exit)) (now (maps .exit)) (now (relocations .exit)) (now (bytes .exit)))
+        call (now (answer .exit))
+        (lent (now (sections .exit)) (now (programs .exit)) (now (functions .exit)) (now (maps .exit)) (now (relocations .exit)) (now (bytes .exit)))
         ≡ callOf
         (loadOf (now (d .entry)) (now (entries .entry)) (now (patches .entry)) rewrite
-        (roomIn (lent (now (sections .entry)) (now (programs .entry)) (now (functions .entry)) (now (maps .entry)) (now (relocations .entry)) (now (bytes .entry)))))
+        (roomIn
+        (lent (now (sections .entry)) (now (programs .entry)) (now (functions .entry)) (now (maps .entry)) (now (relocations .entry)) (now (bytes .entry)))))
         ⌝ }
 {
     let loaded = load(

@@ -93,7 +93,9 @@ fn put_part(
     out: &mut [u8],
     at: usize,
 ) -> usize
-    requires { ⌜ Listed part (now d) (now t) v (now order) n × (at + length (each (partOf part (now d) (now t) v) (take n (now order))) ≤ length (now out)) ⌝ }
+    requires { ⌜
+        Listed part (now d) (now t) v (now order) n × (at + length (each (partOf part (now d) (now t) v) (take n (now order))) ≤ length (now out))
+        ⌝ }
     ensures { λ r.
         ⌜
         (r ≡ at + length (each (partOf part (now (d .entry)) (now (t .entry)) v) (take n (now (order .entry)))))
@@ -202,7 +204,8 @@ pub fn put(
     ensures { λ r.
         ⌜
         now (out .exit)
-        ≡ bytesOf (catalogue (now (d .entry)) (now (t .entry)) v) ++ drop (length (bytesOf (catalogue (now (d .entry)) (now (t .entry)) v))) (now (out .entry))
+        ≡ bytesOf (catalogue (now (d .entry)) (now (t .entry)) v)
+        ++ drop (length (bytesOf (catalogue (now (d .entry)) (now (t .entry)) v))) (now (out .entry))
         ⌝ }
 {
     let license = n.license;

@@ -74,7 +74,8 @@ fn too_small() -> Refusal
     }
 }
 
-// Number 24 of an object that is not refused and whose tables have n rows. The rows of its relocations are stored while they are counted; order and tmp are worked in.
+// Number 24 of an object that is not refused and whose tables have n rows.
+// The rows of its relocations are stored while they are counted; order and tmp are worked in.
 pub fn decide_room(
     d: &[u8],
     t: &[u32],
@@ -141,7 +142,8 @@ pub fn decide_patches(
         ⌜
         (r
         ≡ checkedOf
-        (patchRefusal (objectIn (now (d .entry)) (now (t .entry)) v) (catalogue (now (d .entry)) (now (t .entry)) v .maps) 1 (patchesOf (now (entries .entry)) (now (patches .entry)))))
+        (patchRefusal (objectIn (now (d .entry)) (now (t .entry)) v) (catalogue (now (d .entry)) (now (t .entry)) v .maps) 1
+        (patchesOf (now (entries .entry)) (now (patches .entry)))))
         × Ready (now (d .entry)) (now (t .entry)) v (now (entries .entry)) (now (maps .entry)) n (now (order .exit)) (now (by .exit))
         ⌝ }
 {

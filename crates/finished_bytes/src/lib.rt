@@ -45,7 +45,8 @@ fn patch_bytes(
         ⌜
         now (out .exit)
         ≡ take own (now (out .entry)) ++
-        (each mapOwn (patched (objectIn (now (d .entry)) (now (t .entry)) v) (patchesOf (now (entries .entry)) (now (patches .entry))) (catalogue (now (d .entry)) (now (t .entry)) v) .maps) ++ drop end (now (out .entry)))
+        (each mapOwn (patched (objectIn (now (d .entry)) (now (t .entry)) v) (patchesOf (now (entries .entry)) (now (patches .entry)))
+        (catalogue (now (d .entry)) (now (t .entry)) v) .maps) ++ drop end (now (out .entry)))
         ⌝ }
 {
     if entries.len() > 0 {
@@ -90,7 +91,8 @@ pub fn finish_bytes(
         ⌜
         now (out .exit)
         ≡ filled 0 (length (now (out .entry)))
-        (bytesOf (finish (objectIn (now (d .entry)) (now (t .entry)) v) (patchesOf (now (entries .entry)) (now (patches .entry))) rewrite (catalogue (now (d .entry)) (now (t .entry)) v)))
+        (bytesOf (finish (objectIn (now (d .entry)) (now (t .entry)) v) (patchesOf (now (entries .entry)) (now (patches .entry))) rewrite
+        (catalogue (now (d .entry)) (now (t .entry)) v)))
         ⌝ }
 {
     patch_bytes(

@@ -198,7 +198,10 @@ fn put_programs(out: &mut [u8], at: usize, bytes: &[u8], programs: &[u64], n: u6
 // The line of the function whose row begins at p.
 fn put_function(out: &mut [u8], at: usize, bytes: &[u8], functions: &[u64], p: usize) -> usize
     requires { ⌜ (at ≤ length (now out)) × (p + 7 ≤ length (now functions)) ⌝ }
-    ensures { λ r. ⌜ Laid at (functionLine (functionFrom (now (bytes .entry)) (part (now (functions .entry)) p 7))) (now (out .entry)) r (now (out .exit)) ⌝ }
+    ensures { λ r.
+        ⌜
+        Laid at (functionLine (functionFrom (now (bytes .entry)) (part (now (functions .entry)) p 7))) (now (out .entry)) r (now (out .exit))
+        ⌝ }
 {
     let mut o = put(out, at, b"function");
     o = put_number(out, o, functions[p]);

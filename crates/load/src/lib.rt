@@ -23,7 +23,8 @@ pub fn load(
         ⌜
         outcome r (lent (now (sections .exit)) (now (programs .exit)) (now (functions .exit)) (now (maps .exit)) (now (relocations .exit)) (now (bytes .exit)))
         ≡ loadOf (now (d .entry)) (now (entries .entry)) (now (patches .entry)) rewrite
-        (roomIn (lent (now (sections .entry)) (now (programs .entry)) (now (functions .entry)) (now (maps .entry)) (now (relocations .entry)) (now (bytes .entry))))
+        (roomIn
+        (lent (now (sections .entry)) (now (programs .entry)) (now (functions .entry)) (now (maps .entry)) (now (relocations .entry)) (now (bytes .entry))))
         ⌝ }
 {
     let opened = open(d);

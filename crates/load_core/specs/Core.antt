@@ -3,14 +3,11 @@ use mathlib.Core.Path.{_≡_, refl, sym, _∙_}
 use mathlib.Core.Bool.{Bool, true, _&&_}
 use mathlib.Core.List.{List, _++_}
 use Prim.Native.Nat.{ℕ, _+_, _≤_}
-use native.Mathlib.Omega.{arith}
 use borrow.Author.Tests.{leb-true}
 use lib.Dec.{leb}
-use lib.ListN.{length, replicate}
 use Rattle.lists.specs.Tests.{both-true}
-use Rattle.model.specs.declared.Refusal.{Refusal}
 use Rattle.model.specs.Deposit.{loadDeposit}
-use Rattle.model.specs.Lent.{Outcome, outcomeIn, loadOf}
+use Rattle.model.specs.Lent.{outcomeIn, loadOf}
 use Rattle.model.specs.PatchList.{patchesOf}
 use Rattle.model.specs.Patching.{load}
 use Rattle.model.specs.declared.Room.{Room}
@@ -23,8 +20,7 @@ use Rattle.deposit.specs.Open.{openedOf}
 use Rattle.deposit.specs.Readable.{readable}
 use Rattle.records.specs.Readable.{Readable}
 use Rattle.load_object.specs.declared.Loaded.{Loaded}
-use Rattle.load_object.specs.Core.{Scratch, refusedBy, refused-loads}
-use Rattle.load_object.specs.Done.{lentRoom, Open, verdictIn, CoreDone, FrontDone}
+use Rattle.load_object.specs.Done.{Open, verdictIn, CoreDone, FrontDone}
 
 -- n and r numbers are enough
 pub few-both : (v : View) (n r : ℕ) (b : Bool) → b ≡ (leb (v .sections + v .symbols) n && leb (v .relocations) r) → b ≡ true → (v .sections + v .symbols ≤ n) × (v .relocations ≤ r)

@@ -53,7 +53,8 @@ fn load_sized(
         ⌜
         FrontDone (now (d .entry)) (now (t .entry)) rows
         (outcomeIn
-        (lentRoom (length (now (sections .entry))) (length (now (programs .entry))) rows (length (now (maps .entry))) (length (now (relocations .entry))) (length (now (bytes .entry))))
+        (lentRoom (length (now (sections .entry))) (length (now (programs .entry))) rows (length (now (maps .entry))) (length (now (relocations .entry)))
+        (length (now (bytes .entry))))
         (load (objectIn (now (d .entry)) (now (t .entry)) v) (patchesOf (now (entries .entry)) (now (patches .entry))) rewrite))
         r (now (sections .exit)) (now (programs .exit)) (now (maps .exit)) (now (relocations .exit)) (now (bytes .exit)) (now (f .exit))
         ⌝ }
@@ -171,7 +172,8 @@ pub fn load_core(
         ⌜
         CoreDone (now (d .entry)) (now (t .entry)) rows
         (outcomeIn
-        (lentRoom (length (now (sections .entry))) (length (now (programs .entry))) rows (length (now (maps .entry))) (length (now (relocations .entry))) (length (now (bytes .entry))))
+        (lentRoom (length (now (sections .entry))) (length (now (programs .entry))) rows (length (now (maps .entry))) (length (now (relocations .entry)))
+        (length (now (bytes .entry))))
         (verdictIn (now (d .entry)) (now (t .entry)) opened (now (entries .entry)) (now (patches .entry)) rewrite))
         r (now (sections .exit)) (now (programs .exit)) (now (maps .exit)) (now (relocations .exit)) (now (bytes .exit)) (now (order .exit))
         ⌝ }

@@ -1,19 +1,15 @@
 // The load of an object in arrays of one size: the two large ones.
 ghost use mathlib.Core.Path.{_≡_};
-ghost use mathlib.Core.Bool.{_&&_};
 ghost use Prim.Native.Nat.{_+_, _≤_};
-ghost use lib.Dec.{leb};
 ghost use lib.ListN.{length};
 ghost use Rattle.model.specs.Lent.{outcomeIn};
 ghost use Rattle.model.specs.PatchList.{patchesOf};
 ghost use Rattle.model.specs.Patching.{load};
 ghost use Rattle.records.specs.Readable.{Readable};
 ghost use Rattle.view.specs.View.{objectIn};
-ghost use Rattle.load_object.specs.Done.{lentRoom, Open, symbolsOf, verdictIn, CoreDone, FrontDone};
+ghost use Rattle.load_object.specs.Done.{lentRoom, FrontDone};
 use load_object::Loaded;
 use load_object::load_object;
-use load_object::refuse;
-use object_view::Opened;
 use object_view::View;
 
 // For at most 4,096 and 16,384.
@@ -37,7 +33,8 @@ pub fn load_4096(
         ⌜
         FrontDone (now (d .entry)) (now (t .entry)) rows
         (outcomeIn
-        (lentRoom (length (now (sections .entry))) (length (now (programs .entry))) rows (length (now (maps .entry))) (length (now (relocations .entry))) (length (now (bytes .entry))))
+        (lentRoom (length (now (sections .entry))) (length (now (programs .entry))) rows (length (now (maps .entry))) (length (now (relocations .entry)))
+        (length (now (bytes .entry))))
         (load (objectIn (now (d .entry)) (now (t .entry)) v) (patchesOf (now (entries .entry)) (now (patches .entry))) rewrite))
         r (now (sections .exit)) (now (programs .exit)) (now (maps .exit)) (now (relocations .exit)) (now (bytes .exit)) (now (f .exit))
         ⌝ }
@@ -90,7 +87,8 @@ pub fn load_65536(
         ⌜
         FrontDone (now (d .entry)) (now (t .entry)) rows
         (outcomeIn
-        (lentRoom (length (now (sections .entry))) (length (now (programs .entry))) rows (length (now (maps .entry))) (length (now (relocations .entry))) (length (now (bytes .entry))))
+        (lentRoom (length (now (sections .entry))) (length (now (programs .entry))) rows (length (now (maps .entry))) (length (now (relocations .entry)))
+        (length (now (bytes .entry))))
         (load (objectIn (now (d .entry)) (now (t .entry)) v) (patchesOf (now (entries .entry)) (now (patches .entry))) rewrite))
         r (now (sections .exit)) (now (programs .exit)) (now (maps .exit)) (now (relocations .exit)) (now (bytes .exit)) (now (f .exit))
         ⌝ }

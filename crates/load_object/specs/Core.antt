@@ -1,9 +1,9 @@
 -- What a load leaves of an object, by what was decided.
 use mathlib.Core.Path.{_≡_, refl, sym, ap, _∙_}
-use mathlib.Core.Bool.{Bool, false}
+use mathlib.Core.Bool.{Bool}
 use mathlib.Core.List.{List, _++_, map}
 use mathlib.Core.Option.{Option, none, some}
-use Prim.Native.Nat.{ℕ, _+_, _-_, _*_, _^_, _<_, _≤_, min}
+use Prim.Native.Nat.{ℕ, _+_, _*_, _^_, _<_, _≤_, min}
 use native.Mathlib.Omega.{arith}
 use lib.ListN.{length, take, drop, replicate, length-append, length-take}
 use lib.Seq.{take-append-le, drop-at}
@@ -13,9 +13,8 @@ use Rattle.model.specs.declared.Function.{Function}
 use Rattle.model.specs.declared.Refusal.{Refusal}
 use Rattle.model.specs.Bytes.{each}
 use Rattle.model.specs.Catalogue.{Catalogue}
-use Rattle.model.specs.Lent.{placed, joined, filled, zeroRow, bytesOf, mapName, mapOwn, mapRow, functionName, functionCode, functionRow, imageOf, functionsAt, codeStart, mapsAt, ownStart, fitsIn, Outcome, zeroed, filledTo, turnedDown, lent, outcome, outcomeIn}
-use Rattle.model.specs.Object.{Object, Patch}
-use Rattle.model.specs.PatchList.{patchesOf}
+use Rattle.model.specs.Lent.{placed, joined, filled, zeroRow, bytesOf, mapName, mapOwn, mapRow, functionName, functionCode, functionRow, imageOf, functionsAt, codeStart, mapsAt, ownStart, Outcome, zeroed, filledTo, turnedDown, lent, outcome, outcomeIn}
+use Rattle.model.specs.Object.{Patch}
 use Rattle.model.specs.Patching.{finish, load}
 use Rattle.model.specs.Refusals.{objectRefusal, patchRefusal}
 use Rattle.view.specs.View.{objectIn}
@@ -30,7 +29,6 @@ use Rattle.sections.specs.declared.Counts.{Counts}
 use Rattle.sections.specs.declared.Tables.{Tables}
 use Rattle.tables.specs.Parsed
 use Rattle.tables.specs.Parsed.{tablesOf, countsOf}
-use Rattle.decision.specs.declared.Decision.{Decision}
 use Rattle.decision.specs.declared.Plan.{Plan}
 use Rattle.model.specs.declared.Room.{Room}
 use Rattle.decision.specs.Decided.{Planned}

@@ -1,7 +1,7 @@
 // An opened object loaded, but for the function table: what refuses it is decided, the lent tables and bytes are filled, then the bytes are finished.
 ghost use mathlib.Core.Path.{_≡_};
 ghost use mathlib.Core.Option.{none};
-ghost use Prim.Native.Nat.{_+_, _^_, _<_, _≤_};
+ghost use Prim.Native.Nat.{_≤_};
 ghost use lib.ListN.{length, replicate};
 ghost use Rattle.model.specs.Lent.{bytesOf, filled, imageOf, outcomeIn};
 ghost use Rattle.model.specs.PatchList.{patchesOf};
@@ -160,7 +160,8 @@ fn deliver(
         × (now (relocations .exit) ≡ filled 0 (length (now (relocations .entry))) (imageOf (catalogue (now (d .entry)) (now (t .entry)) v) .relocations))
         × (now (bytes .exit)
         ≡ filled 0 (length (now (bytes .entry)))
-        (bytesOf (finish (objectIn (now (d .entry)) (now (t .entry)) v) (patchesOf (now (entries .entry)) (now (patches .entry))) rewrite (catalogue (now (d .entry)) (now (t .entry)) v))))
+        (bytesOf (finish (objectIn (now (d .entry)) (now (t .entry)) v) (patchesOf (now (entries .entry)) (now (patches .entry))) rewrite
+        (catalogue (now (d .entry)) (now (t .entry)) v))))
         ⌝ }
 {
     fill(
@@ -230,7 +231,8 @@ fn load_tables(
         ⌜
         FrontDone (now (d .entry)) (now (t .entry)) rows
         (outcomeIn
-        (lentRoom (length (now (sections .entry))) (length (now (programs .entry))) rows (length (now (maps .entry))) (length (now (relocations .entry))) (length (now (bytes .entry))))
+        (lentRoom (length (now (sections .entry))) (length (now (programs .entry))) rows (length (now (maps .entry))) (length (now (relocations .entry)))
+        (length (now (bytes .entry))))
         (load (objectIn (now (d .entry)) (now (t .entry)) v) (patchesOf (now (entries .entry)) (now (patches .entry))) rewrite))
         r (now (sections .exit)) (now (programs .exit)) (now (maps .exit)) (now (relocations .exit)) (now (bytes .exit)) (now (f .entry))
         ⌝ }
@@ -302,7 +304,8 @@ pub fn load_object(
         ⌜
         FrontDone (now (d .entry)) (now (t .entry)) rows
         (outcomeIn
-        (lentRoom (length (now (sections .entry))) (length (now (programs .entry))) rows (length (now (maps .entry))) (length (now (relocations .entry))) (length (now (bytes .entry))))
+        (lentRoom (length (now (sections .entry))) (length (now (programs .entry))) rows (length (now (maps .entry))) (length (now (relocations .entry)))
+        (length (now (bytes .entry))))
         (load (objectIn (now (d .entry)) (now (t .entry)) v) (patchesOf (now (entries .entry)) (now (patches .entry))) rewrite))
         r (now (sections .exit)) (now (programs .exit)) (now (maps .exit)) (now (relocations .exit)) (now (bytes .exit)) (now (f .exit))
         ⌝ }

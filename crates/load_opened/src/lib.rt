@@ -30,7 +30,8 @@ fn load_64(
     ensures { λ r.
         ⌜
         outcome r (lent (now (sections .exit)) (now (programs .exit)) (now (functions .exit)) (now (maps .exit)) (now (relocations .exit)) (now (bytes .exit)))
-        ≡ outcomeIn (roomIn (lent (now (sections .entry)) (now (programs .entry)) (now (functions .entry)) (now (maps .entry)) (now (relocations .entry)) (now (bytes .entry))))
+        ≡ outcomeIn (roomIn
+        (lent (now (sections .entry)) (now (programs .entry)) (now (functions .entry)) (now (maps .entry)) (now (relocations .entry)) (now (bytes .entry))))
         (verdictIn (now (d .entry)) (now (t .entry)) opened (now (entries .entry)) (now (patches .entry)) rewrite)
         ⌝ }
 {
@@ -74,7 +75,8 @@ fn load_2048(
     ensures { λ r.
         ⌜
         outcome r (lent (now (sections .exit)) (now (programs .exit)) (now (functions .exit)) (now (maps .exit)) (now (relocations .exit)) (now (bytes .exit)))
-        ≡ outcomeIn (roomIn (lent (now (sections .entry)) (now (programs .entry)) (now (functions .entry)) (now (maps .entry)) (now (relocations .entry)) (now (bytes .entry))))
+        ≡ outcomeIn (roomIn
+        (lent (now (sections .entry)) (now (programs .entry)) (now (functions .entry)) (now (maps .entry)) (now (relocations .entry)) (now (bytes .entry))))
         (verdictIn (now (d .entry)) (now (t .entry)) opened (now (entries .entry)) (now (patches .entry)) rewrite)
         ⌝ }
 {
@@ -118,7 +120,8 @@ fn load_65536(
     ensures { λ r.
         ⌜
         outcome r (lent (now (sections .exit)) (now (programs .exit)) (now (functions .exit)) (now (maps .exit)) (now (relocations .exit)) (now (bytes .exit)))
-        ≡ outcomeIn (roomIn (lent (now (sections .entry)) (now (programs .entry)) (now (functions .entry)) (now (maps .entry)) (now (relocations .entry)) (now (bytes .entry))))
+        ≡ outcomeIn (roomIn
+        (lent (now (sections .entry)) (now (programs .entry)) (now (functions .entry)) (now (maps .entry)) (now (relocations .entry)) (now (bytes .entry))))
         (verdictIn (now (d .entry)) (now (t .entry)) opened (now (entries .entry)) (now (patches .entry)) rewrite)
         ⌝ }
 {
@@ -179,7 +182,8 @@ fn load_more(
     ensures { λ r.
         ⌜
         outcome r (lent (now (sections .exit)) (now (programs .exit)) (now (functions .exit)) (now (maps .exit)) (now (relocations .exit)) (now (bytes .exit)))
-        ≡ outcomeIn (roomIn (lent (now (sections .entry)) (now (programs .entry)) (now (functions .entry)) (now (maps .entry)) (now (relocations .entry)) (now (bytes .entry))))
+        ≡ outcomeIn (roomIn
+        (lent (now (sections .entry)) (now (programs .entry)) (now (functions .entry)) (now (maps .entry)) (now (relocations .entry)) (now (bytes .entry))))
         (verdictIn (now (d .entry)) (now (t .entry)) opened (now (entries .entry)) (now (patches .entry)) rewrite)
         ⌝ }
 {
@@ -235,7 +239,8 @@ pub fn load_opened(
     ensures { λ r.
         ⌜
         outcome r (lent (now (sections .exit)) (now (programs .exit)) (now (functions .exit)) (now (maps .exit)) (now (relocations .exit)) (now (bytes .exit)))
-        ≡ outcomeIn (roomIn (lent (now (sections .entry)) (now (programs .entry)) (now (functions .entry)) (now (maps .entry)) (now (relocations .entry)) (now (bytes .entry))))
+        ≡ outcomeIn (roomIn
+        (lent (now (sections .entry)) (now (programs .entry)) (now (functions .entry)) (now (maps .entry)) (now (relocations .entry)) (now (bytes .entry))))
         (verdictIn (now (d .entry)) (now (t .entry)) opened (now (entries .entry)) (now (patches .entry)) rewrite)
         ⌝ }
 {

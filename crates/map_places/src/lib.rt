@@ -48,7 +48,10 @@ pub fn maps_by_section(d: &[u8], t: &[u32], v: View, maps: &[u32], n: usize, by:
         × (v .sections ≤ length (now by))
         × ((k : ℕ) → k < n → MapFits (now d) (now t) v (getD (now maps) k 0))
         ⌝ }
-    ensures { λ r. ⌜ now (by .exit) ≡ mapPlaces (now (d .entry)) (now (t .entry)) v (take n (now (maps .entry))) ++ drop (v .sections) (now (by .entry)) ⌝ }
+    ensures { λ r.
+        ⌜
+        now (by .exit) ≡ mapPlaces (now (d .entry)) (now (t .entry)) v (take n (now (maps .entry))) ++ drop (v .sections) (now (by .entry))
+        ⌝ }
 {
     clear(by, size(v.sections));
     let mut k = n;

@@ -1,4 +1,5 @@
-// The rows of the map table: where a map's name lies, its length, the section's index and kind, the symbol or 0, where its own bytes lie, how many they are, and the seven words.
+// The rows of the map table: where a map's name lies, its length, the section's index and kind,
+// the symbol or 0, where its own bytes lie, how many they are, and the seven words.
 ghost use mathlib.Core.Path.{_≡_};
 ghost use mathlib.Core.List.{_++_};
 ghost use Prim.Native.Nat.{ℕ, _+_, _*_, _^_, _<_, _≤_};
@@ -164,7 +165,10 @@ pub fn put_map_rows(
         × (n * 27 ≤ length (now out))
         × ((k : ℕ) → k < n → MapFits (now d) (now t) v (getD (now order) k 0))
         ⌝ }
-    ensures { λ r. ⌜ now (out .exit) ≡ mapRows (now (d .entry)) (now (t .entry)) v at own (take n (now (order .entry))) ++ drop (n * 27) (now (out .entry)) ⌝ }
+    ensures { λ r.
+        ⌜
+        now (out .exit) ≡ mapRows (now (d .entry)) (now (t .entry)) v at own (take n (now (order .entry))) ++ drop (n * 27) (now (out .entry))
+        ⌝ }
 {
     let mut place = at;
     let mut own_place = own;

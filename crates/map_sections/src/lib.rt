@@ -51,7 +51,8 @@ pub fn map_symbols(
         ⌜
         r
         ≡ checkedOf
-        (firstIn (mapSymbolRefusal (sectionFrom (now (d .entry)) (now (t .entry)) v s)) (map (symbolIn (now (d .entry)) (now (t .entry)) v) (slice lo hi (now (order .entry)))))
+        (firstIn (mapSymbolRefusal (sectionFrom (now (d .entry)) (now (t .entry)) v s))
+        (map (symbolIn (now (d .entry)) (now (t .entry)) v) (slice lo hi (now (order .entry)))))
         ⌝ }
 {
     let mut i = lo;
@@ -96,7 +97,8 @@ pub fn map_numbers(
     w: usize,
 ) -> usize
     requires { ⌜
-        (lo ≤ hi) × (hi ≤ length (now order)) × (w + (hi - lo) ≤ length (now out)) × ((k : ℕ) → lo ≤ k → k < hi → sections + getD (now order) k 0 < 2 ^ 32)
+        (lo ≤ hi) × (hi ≤ length (now order)) × (w + (hi - lo) ≤ length (now out))
+        × ((k : ℕ) → lo ≤ k → k < hi → sections + getD (now order) k 0 < 2 ^ 32)
         ⌝ }
     ensures { λ r.
         ⌜

@@ -1,4 +1,5 @@
-// The section that an index names and the one that a symbol lies in: by a guess, since the records' indexes usually follow one another, then a binary search, since they rise.
+// The section that an index names and the one that a symbol lies in: by a guess,
+// since the records' indexes usually follow one another, then a binary search, since they rise.
 ghost use mathlib.Core.Path.{_≡_};
 ghost use Prim.Native.Nat.{_-_};
 ghost use Rattle.records.specs.View.{sectionAt, symbolAt};

@@ -127,7 +127,8 @@ pub fn patch_own(
         ⌜
         now (bytes .exit)
         ≡ each mapOwn
-        (patched (objectIn (now (d .entry)) (now (t .entry)) v) (patchesOf (now (entries .entry)) (now (patches .entry))) (catalogueOf (objectIn (now (d .entry)) (now (t .entry)) v)) .maps)
+        (patched (objectIn (now (d .entry)) (now (t .entry)) v) (patchesOf (now (entries .entry)) (now (patches .entry)))
+        (catalogueOf (objectIn (now (d .entry)) (now (t .entry)) v)) .maps)
         ⌝ }
 {
     let count = (entries.len() + 4) / 5;
@@ -163,7 +164,8 @@ pub fn patch_map_data(
         ⌜
         now (bytes .exit)
         ≡ take own (now (bytes .entry)) ++
-        (each mapOwn (patched (objectIn (now (d .entry)) (now (t .entry)) v) (patchesOf (now (entries .entry)) (now (patches .entry))) (catalogueOf (objectIn (now (d .entry)) (now (t .entry)) v)) .maps) ++ drop end (now (bytes .entry)))
+        (each mapOwn (patched (objectIn (now (d .entry)) (now (t .entry)) v) (patchesOf (now (entries .entry)) (now (patches .entry)))
+        (catalogueOf (objectIn (now (d .entry)) (now (t .entry)) v)) .maps) ++ drop end (now (bytes .entry)))
         ⌝ }
 {
     patch_own(

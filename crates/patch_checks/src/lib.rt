@@ -176,7 +176,8 @@ fn symbol_refusal(
         ⌜
         r
         ≡ checkedOf
-        (orElse (ofEntry 21 e (not (eqb length (symbolIn (now (d .entry)) (now (t .entry)) v j .size)))) (placeRefusal (mapsOf (now (d .entry)) (now (t .entry)) v (now (maps .entry)) n) e (symbolIn (now (d .entry)) (now (t .entry)) v j)))
+        (orElse (ofEntry 21 e (not (eqb length (symbolIn (now (d .entry)) (now (t .entry)) v j .size))))
+        (placeRefusal (mapsOf (now (d .entry)) (now (t .entry)) v (now (maps .entry)) n) e (symbolIn (now (d .entry)) (now (t .entry)) v j)))
         ⌝ }
 {
     let y = symbol(d, t, v, j);
@@ -204,7 +205,8 @@ fn entry_refusal(
         ⌜
         r
         ≡ checkedOf
-        (entryRefusal (objectIn (now (d .entry)) (now (t .entry)) v) (mapsOf (now (d .entry)) (now (t .entry)) v (now (maps .entry)) n) e (patchBy (now (patches .entry)) x))
+        (entryRefusal (objectIn (now (d .entry)) (now (t .entry)) v) (mapsOf (now (d .entry)) (now (t .entry)) v (now (maps .entry)) n) e
+        (patchBy (now (patches .entry)) x))
         ⌝ }
 {
     if !is_lent(x, patches) {
@@ -245,7 +247,8 @@ pub fn patch_refusal(
         ⌜
         r
         ≡ checkedOf
-        (patchRefusal (objectIn (now (d .entry)) (now (t .entry)) v) (mapsOf (now (d .entry)) (now (t .entry)) v (now (maps .entry)) n) 1 (patchesOf (now (entries .entry)) (now (patches .entry))))
+        (patchRefusal (objectIn (now (d .entry)) (now (t .entry)) v) (mapsOf (now (d .entry)) (now (t .entry)) v (now (maps .entry)) n) 1
+        (patchesOf (now (entries .entry)) (now (patches .entry))))
         ⌝ }
 {
     let count = (entries.len() + 4) / 5;

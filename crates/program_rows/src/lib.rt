@@ -70,7 +70,10 @@ pub fn put_program_rows(
     out: &mut [u64],
 )
     requires { ⌜ Readable (now d) (now t) v × (n ≤ length (now order)) × (n < 2 ^ 29) × (at < 2 ^ 62) × (n * 7 ≤ length (now out)) ⌝ }
-    ensures { λ r. ⌜ now (out .exit) ≡ programRows (now (d .entry)) (now (t .entry)) v at (take n (now (order .entry))) ++ drop (n * 7) (now (out .entry)) ⌝ }
+    ensures { λ r.
+        ⌜
+        now (out .exit) ≡ programRows (now (d .entry)) (now (t .entry)) v at (take n (now (order .entry))) ++ drop (n * 7) (now (out .entry))
+        ⌝ }
 {
     let mut place = at;
     let mut k: usize = 0;

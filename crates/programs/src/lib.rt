@@ -55,7 +55,8 @@ pub fn program_symbols(
         ⌜
         r
         ≡ checkedOf
-        (firstIn (programSymbolRefusal (sectionFrom (now (d .entry)) (now (t .entry)) v s)) (map (symbolIn (now (d .entry)) (now (t .entry)) v) (programsAmong (now (d .entry)) (now (t .entry)) v (slice lo hi (now (order .entry))))))
+        (firstIn (programSymbolRefusal (sectionFrom (now (d .entry)) (now (t .entry)) v s))
+        (map (symbolIn (now (d .entry)) (now (t .entry)) v) (programsAmong (now (d .entry)) (now (t .entry)) v (slice lo hi (now (order .entry))))))
         ⌝ }
 {
     let mut i = lo;
@@ -83,7 +84,10 @@ pub fn program_refusal(
     hi: usize,
 ) -> Checked
     requires { ⌜ (hi ≤ length (now order)) × (slice lo hi (now order) ≡ membersIn (now d) (now t) v s) ⌝ }
-    ensures { λ r. ⌜ r ≡ checkedOf (programRefusal (objectIn (now (d .entry)) (now (t .entry)) v) (sectionFrom (now (d .entry)) (now (t .entry)) v s)) ⌝ }
+    ensures { λ r.
+        ⌜
+        r ≡ checkedOf (programRefusal (objectIn (now (d .entry)) (now (t .entry)) v) (sectionFrom (now (d .entry)) (now (t .entry)) v s))
+        ⌝ }
 {
     let at = records::name_at(v, s.name);
     let n = size(s.name.length);

@@ -37,7 +37,10 @@ pub fn put_section_rows(
     out: &mut [u64],
 )
     requires { ⌜ (n ≤ length (now order)) × (n < 2 ^ 29) × (at < 2 ^ 62) × (n * 4 ≤ length (now out)) ⌝ }
-    ensures { λ r. ⌜ now (out .exit) ≡ sectionRows (now (d .entry)) (now (t .entry)) v at (take n (now (order .entry))) ++ drop (n * 4) (now (out .entry)) ⌝ }
+    ensures { λ r.
+        ⌜
+        now (out .exit) ≡ sectionRows (now (d .entry)) (now (t .entry)) v at (take n (now (order .entry))) ++ drop (n * 4) (now (out .entry))
+        ⌝ }
 {
     let mut place = wide(at);
     let mut k: usize = 0;

@@ -125,7 +125,10 @@ fn by_address(
     tmp: &mut [u32],
 )
     requires { ⌜ (lo ≤ hi) × (hi ≤ length (now order)) × (length (now group) ≡ hi - lo) × (length (now tmp) ≡ hi - lo) ⌝ }
-    ensures { λ r. ⌜ now (group .exit) ≡ sorted (byKey (keyOf By.SymbolAddress (now (d .entry)) (now (t .entry)) v)) (slice lo hi (now (order .entry))) ⌝ }
+    ensures { λ r.
+        ⌜
+        now (group .exit) ≡ sorted (byKey (keyOf By.SymbolAddress (now (d .entry)) (now (t .entry)) v)) (slice lo hi (now (order .entry)))
+        ⌝ }
 {
     sort::copy(group, &order[lo..hi]);
     sort::sort(d, t, v, By::SymbolAddress, group, tmp);

@@ -64,7 +64,10 @@ pub fn parse(
         × (v .sections + v .symbols ≤ length (now maps)) × (v .sections + v .symbols ≤ length (now order))
         × (v .relocations ≤ length (now next)) × Readable (now d) (now t) v
         ⌝ }
-    ensures { λ r. ⌜ Parsed (now (d .entry)) (now (t .entry)) v r (now (sections .exit)) (now (programs .exit)) (now (functions .exit)) (now (maps .exit)) ⌝ }
+    ensures { λ r.
+        ⌜
+        Parsed (now (d .entry)) (now (t .entry)) v r (now (sections .exit)) (now (programs .exit)) (now (functions .exit)) (now (maps .exit))
+        ⌝ }
 {
     let y = size(v.symbols);
     let listed = sections::parse_object(

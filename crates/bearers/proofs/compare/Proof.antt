@@ -1,5 +1,5 @@
 -- `bearers::compare` meets its contract: a symbol's name is the run of its bytes behind where the names begin.
-use mathlib.Core.Path.{_≡_, sym, ap, _∙_}
+use mathlib.Core.Path.{sym, ap, _∙_}
 use Prim.Native.Nat.{ℕ}
 use native.Mathlib.Omega.{arith}
 use Rattle.model.specs.declared.Extent.{Extent}

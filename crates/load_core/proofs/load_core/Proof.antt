@@ -5,7 +5,6 @@ use native.Mathlib.Omega.{arith}
 use denote.Ref.{now}
 use lib.ListN.{length}
 use Rattle.model.specs.Lent.{outcomeIn}
-use Rattle.model.specs.declared.Room.{Room}
 use Rattle.tables.specs.Parsed.{lent-length}
 use Rattle.load_object.specs.Core.{refused-loads}
 use Rattle.load_object.specs.Done.{lentRoom, verdictIn}
@@ -67,7 +66,7 @@ returns c =
     let a = c .before .before .before .before .before .before .before .before .before .before .before .before .before .before .before .before .before .before .before .before .before .before .before .before .before .before .before .before .before .args in
     let q = c .before .before .before .before .before .before .before .before .before .before .before .before .before .before .before .before .before .opened .given in
     let k = c .before .before .before .before .before .before .before .before .before .before .refuse in
-    let room : Room = record { sections = length (now (a .sections)); programs = length (now (a .programs)); functions = a .rows; maps = length (now (a .maps)); relocations = length (now (a .relocations)); bytes = length (now (a .bytes)) } in
+    let room = lentRoom (length (now (a .sections))) (length (now (a .programs))) (a .rows) (length (now (a .maps))) (length (now (a .relocations))) (length (now (a .bytes))) in
     refused-loads (now (a .d)) (now (a .t)) room (k .last .1 .0) (k .last .1 .1 .0) (k .last .1 .1 .1 .0) (k .last .1 .1 .1 .1 .0) (k .last .1 .1 .1 .1 .1 .0) [] (q .0 .0) _ (k .result)
     (ap (λ o. outcomeIn room (verdictIn (now (a .d)) (now (a .t)) o (now (a .entries)) (now (a .patches)) (a .rewrite))) (q .1)) (k .ensures .0) (k .ensures .1) (k .ensures .2) (k .ensures .3) (k .ensures .4) (k .ensures .5) (now (a .order))
 

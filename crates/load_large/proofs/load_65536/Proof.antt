@@ -1,7 +1,7 @@
 -- `load_large::load_65536` meets its contract.
 use native.Mathlib.Omega.{arith}
 use denote.Ref.{now}
-use Prim.Native.Nat.{ℕ, _+_, _≤_}
+use Prim.Native.Nat.{ℕ}
 use lib.ListN.{length-replicate}
 use Rattle.load_object.specs.Core.{scratch-of}
 use borrow.Author.Needs.{needs}

@@ -1,22 +1,16 @@
 -- `load_object::load_object` meets its contract: what the tables say, and then what the patches and the room do.
 use mathlib.Core.Path.{_∙_}
-use mathlib.Core.List.{List}
-use Prim.Native.Nat.{ℕ}
 use native.Mathlib.Omega.{arith}
 use denote.Ref.{now}
 use lib.ListN.{length}
 use Rattle.model.specs.PatchList.{patchesOf}
 use Rattle.view.specs.View.{objectIn}
-use Rattle.model.specs.declared.Room.{Room}
 use Rattle.decision.specs.Outcomes.{back-object}
 use Rattle.load_object.specs.Core.{refused-loads, numbers-refused, numbers-held}
+use Rattle.load_object.specs.Done.{lentRoom}
 use borrow.Author.Needs.{needs}
 use Rattle.load_object.proofs.load_object.Statement.{statement}
 use Rattle.load_object.proofs.load_object.Tie as tie
-
--- what is lent
-abbrev room-of : List ℕ → List ℕ → ℕ → List ℕ → List ℕ → List ℕ → Room
-room-of s p n m l b = record { sections = length s; programs = length p; functions = n; maps = length m; relocations = length l; bytes = length b }
 
 parse-requires : tie.Need-parse-requires
 parse-requires c κs =
@@ -89,7 +83,7 @@ returns : tie.Need-returns
 returns c =
     let z = c .before .before .before .before .before .before .before .before .before .before .before .before .before .before .before .before .before .before .before .before .before .before .before .before .before .before .before .before .before .before .before .before .before .before .before .before .before .before .before .before .before .before .before .before .before .before .before .before .before .before .before .before .before in
     let a = z .args in
-    let room = room-of (now (a .sections)) (now (a .programs)) (a .rows) (now (a .maps)) (now (a .relocations)) (now (a .bytes)) in
+    let room = lentRoom (length (now (a .sections))) (length (now (a .programs))) (a .rows) (length (now (a .maps))) (length (now (a .relocations))) (length (now (a .bytes))) in
     let q = c .before .before .before .before .before .before .before .before .before .before .before .before .before .before .before .before .before .r .given in
     let k = c .before .before .before .before .before .before .before .before .before .before .refuse .ensures in
     let e = rw (q .1) at (c .before .before .before .before .before .before .before .before .before .before .before .before .before .before .before .before .before .before .before .before .before .before .before .before .before .before .before .before .before .before .before .parse .ensures) in

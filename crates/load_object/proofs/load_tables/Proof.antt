@@ -1,8 +1,8 @@
 -- `load_object::load_tables` meets its contract: what the patches or the room refuse is cleared, all else is delivered.
 use mathlib.Core.Path.{_≡_, refl, sym, ap, _∙_}
-use mathlib.Core.List.{List, _++_}
+use mathlib.Core.List.{_++_}
 use mathlib.Core.Option.{none}
-use Prim.Native.Nat.{ℕ, _-_}
+use Prim.Native.Nat.{_-_}
 use native.Mathlib.Omega.{arith}
 use denote.Ref.{now}
 use lib.ListN.{length, drop}
@@ -14,17 +14,13 @@ use Rattle.view.specs.View.{objectIn}
 use Rattle.text.specs.Parsed.{checked-fine, checked-refused}
 use Rattle.tables.specs.Parsed.{lent-length}
 use Rattle.bytes.specs.Parts.{catalogue}
-use Rattle.model.specs.declared.Room.{Room}
 use Rattle.decision.specs.Outcomes.{back-patches, back-small}
 use Rattle.decision.specs.Patches.{ready-part}
 use Rattle.load_object.specs.Core.{refused-loads, accepted-loads, fillable}
+use Rattle.load_object.specs.Done.{lentRoom}
 use borrow.Author.Needs.{needs}
 use Rattle.load_object.proofs.load_tables.Statement.{statement}
 use Rattle.load_object.proofs.load_tables.Tie as tie
-
--- what is lent
-abbrev room-of : List ℕ → List ℕ → ℕ → List ℕ → List ℕ → List ℕ → Room
-room-of s p n m l b = record { sections = length s; programs = length p; functions = n; maps = length m; relocations = length l; bytes = length b }
 
 decide-room-requires : tie.Need-decide-room-requires
 decide-room-requires c κs = search needs
@@ -102,7 +98,7 @@ returns c =
     let a = z .args in
     let o = objectIn (now (a .d)) (now (a .t)) (a .v) in
     let ps = patchesOf (now (a .entries)) (now (a .patches)) in
-    let room = room-of (now (a .sections)) (now (a .programs)) (a .rows) (now (a .maps)) (now (a .relocations)) (now (a .bytes)) in
+    let room = lentRoom (length (now (a .sections))) (length (now (a .programs))) (a .rows) (length (now (a .maps))) (length (now (a .relocations))) (length (now (a .bytes))) in
     let q = c .before .before .before .before .before .before .before .before .before .before .before .before .before .before .before .before .before .checked .given in
     let k = c .before .before .before .before .before .before .before .before .before .before .refuse .ensures in
     refused-loads (now (a .d)) (now (a .t)) room _ _ _ _ _ (now (a .f)) (q .0 .0) _ _
@@ -135,7 +131,7 @@ deliver-requires c κs =
     let z = c .before .before .before .before .before .before .before .before .before .before .before .before .before .before .before .before .before .before .before .before .before .before .before .before .before .before .before .before .before .before .before .before .before .before .before .before .before .before .before .before .before .before .before .before .before .before in
     let a = z .args in
     let d = now (a .d) in
-    let room = room-of (now (a .sections)) (now (a .programs)) (a .rows) (now (a .maps)) (now (a .relocations)) (now (a .bytes)) in
+    let room = lentRoom (length (now (a .sections))) (length (now (a .programs))) (a .rows) (length (now (a .maps))) (length (now (a .relocations))) (length (now (a .bytes))) in
     let q = c .before .before .before .before .before .before .before .before .before .decision2 .given in
     let k = c .before .before .before .before .before .before .before .before .before .before .before .before .before .before .before .before .before .before .before .before .before .before .before .before .before .before .before .decide-room in
     let g = rw (q .1) at (k .ensures .0) in
@@ -173,7 +169,7 @@ returns-2 c =
     let a = z .args in
     let o = objectIn (now (a .d)) (now (a .t)) (a .v) in
     let ps = patchesOf (now (a .entries)) (now (a .patches)) in
-    let room = room-of (now (a .sections)) (now (a .programs)) (a .rows) (now (a .maps)) (now (a .relocations)) (now (a .bytes)) in
+    let room = lentRoom (length (now (a .sections))) (length (now (a .programs))) (a .rows) (length (now (a .maps))) (length (now (a .relocations))) (length (now (a .bytes))) in
     let q = c .before .before .before .before .before .before .before .before .before .before .before .before .before .before .before .before .before .decision .given in
     let k = c .before .before .before .before .before .before .before .before .before .before .refuse2 .ensures in
     let w = rw (q .1) at (c .before .before .before .before .before .before .before .before .before .before .before .before .before .before .before .before .before .before .before .before .before .before .before .before .before .before .before .before .before .before .before .before .before .before .before .decide-room .ensures .0) in
@@ -206,7 +202,7 @@ returns-3 : tie.Need-returns-3
 returns-3 c =
     let z = c .before .before .before .before .before .before .before .before .before .before .before .before .before .before .before .before .before .before .before .before .before .before .before .before .before .before .before .before .before .before .before .before .before .before .before .before .before .before .before .before .before .before .before .before .before .before .before .before .before .before .before .before .before .before .before .before .before in
     let a = z .args in
-    let room = room-of (now (a .sections)) (now (a .programs)) (a .rows) (now (a .maps)) (now (a .relocations)) (now (a .bytes)) in
+    let room = lentRoom (length (now (a .sections))) (length (now (a .programs))) (a .rows) (length (now (a .maps))) (length (now (a .relocations))) (length (now (a .bytes))) in
     let q = c .before .before .before .before .before .before .before .before .before .before .before .before .before .before .before .before .before .before .before .before .decision2 .given in
     let g = rw (q .1) at (c .before .before .before .before .before .before .before .before .before .before .before .before .before .before .before .before .before .before .before .before .before .before .before .before .before .before .before .before .before .before .before .before .before .before .before .before .before .before .decide-room .ensures .0) in
     let k = c .before .before .before .before .before .before .before .before .before .before .deliver .ensures in
