@@ -1,25 +1,25 @@
 -- What holds of an object that is accepted: section by section, what was not refused.
-use mathlib.Core.Path.{_≡_, sym, ap, _∙_}
+use mathlib.Core.Path.{_≡_, refl, sym, ap, _∙_}
 use mathlib.Core.Logic.{inl, inr}
 use mathlib.Core.Bool.{Bool, true, false, cond, _||_, not}
 use mathlib.Core.List.{List, [], _∷_, map}
 use mathlib.Core.Option.{Option, none, some}
-use Prim.Native.Nat.{ℕ, _+_, _<_, _≤_, _%_}
+use Prim.Native.Nat.{ℕ, zero, suc, _+_, _<_, _≤_, _%_}
 use native.Mathlib.Omega.{arith}
 use borrow.Author.Tests.{eqb-true, eqb-false, ltb-false, not-false}
-use lib.Dec.{eqb, ltb}
+use lib.Dec.{eqb, ltb, leb}
 use lib.ListN.{length}
 use Rattle.model.specs.declared.EbpfSectionKind.{EbpfSectionKind as Kind}
-use Rattle.model.specs.Bytes.{ascii, orElse, firstIn, maybe, each, _∈_}
+use Rattle.model.specs.Bytes.{ascii, orElse, firstIn, find, maybe, each, _∈_}
 use Rattle.model.specs.Object.{Section, Symbol, Object}
 use Rattle.model.specs.SectionKind.{isKind, kindOf}
 use Rattle.model.specs.ProgramName.{fromStr, sectionNumber}
 use Rattle.model.specs.Instruction.{invalidProgramCode}
 use Rattle.model.specs.Catalogue.{Function}
-use Rattle.model.specs.Symbols.{top, symbolsOf, programSymbols, definedText, Stop, walkOf, firstNamed}
+use Rattle.model.specs.Symbols.{top, symbolsOf, programSymbols, definedText, symbolAt, Stop, stops, walkOf, firstNamed}
 use Rattle.model.specs.Contents.{functionAt, programFunction, textFunction, functionsOf}
 use Rattle.model.specs.Refusals.{ofSection, ofSymbol, ofNumber, relocRefusal, licenceRefusal, versionRefusal, passes, isEmpty, programSymbolRefusal, programRefusal, sharedRefusal, stopRefusal, textRefusal, kindRefusal, sectionRefusal, objectRefusal, refusalOf}
-use Rattle.guarantees.specs.OptionsAndLists.{orElse-none, refuse-none, both-false, firstIn-none, map-∈, each-∈}
+use Rattle.guarantees.specs.OptionsAndLists.{not-some, orElse-none, refuse-none, both-false, firstIn-none, find-∈, map-∈, each-∈}
 use Rattle.guarantees.specs.SecondHalf.{none-parts}
 use Rattle.model.specs.Bytes.{AllBytes}
 
@@ -127,6 +127,27 @@ stop-accepted s at y h =
       inside = ltb-false _ _ (refuse-none _ 14 (s .index) (y .index) 0 c);
       eights = eqb-true _ _ (not-false _ (refuse-none _ 15 (s .index) (y .index) 0 d));
     }
+
+-- the symbol that a walk meets is one of those that it searches, at the section's address plus the offset
+pub stop-∈ : (n : ℕ) (s : Section) (ys : List Symbol) (at : ℕ) (p : Stop) (y : Symbol) → p ∈ stops n s ys at → p .met ≡ some y
+    → (y ∈ ys) × (y .address ≡ s .address + p .at)
+unfolding stops symbolAt
+stop-∈ zero s ys at p y m e = absurd m
+stop-∈ (suc n) s ys at p y m e = go (ltb at (length (s .bytes))) (symbolAt s ys at) refl m (λ z k. stop-∈ n s ys (at + z .size) p y k e)
+  where
+    here : (b : Bool) → cond b (find (λ z. eqb (z .address) (s .address + at)) ys) none ≡ some y → (y ∈ ys) × (y .address ≡ s .address + at)
+    here true q = let (m, k) = find-∈ (λ z. eqb (z .address) (s .address + at)) y ys q in (m, eqb-true _ _ k)
+    here false q = not-some y (sym q)
+
+    go : (b : Bool) (t : Option Symbol) → symbolAt s ys at ≡ t
+        → p ∈ cond b (record { at = at; met = t } ∷ maybe t [] (λ z. stops n s ys (at + z .size))) []
+        → ((z : Symbol) → p ∈ stops n s ys (at + z .size) → (y ∈ ys) × (y .address ≡ s .address + p .at))
+        → (y ∈ ys) × (y .address ≡ s .address + p .at)
+    go true t q (inl k) r =
+        let (m, a) = here (leb (s .address + at) top) (q ∙ sym (ap (λ x. x .met) k) ∙ e) in (m, a ∙ ap (λ x. s .address + x .at) (sym k))
+    go true none q (inr k) r = absurd k
+    go true (some z) q (inr k) r = r z k
+    go false t q k r = absurd k
 
 -- ---- the functions of one section
 

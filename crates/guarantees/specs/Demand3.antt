@@ -37,8 +37,8 @@ pub demand-3-first : (a b : List ℕ) (c : Catalogue)
     -- 'with no section name used twice in either and no symbol of a `maps` section bearing a section's name,'
     → Fair (objectOf a) → Fair (objectOf b)
     -- 'then every text, `.data` and `.rodata` section stands in both under one name and index with the same bytes' (`whole`), 'text being exactly its
-    -- listed functions joined in order of address without gap or overlap' (`texts`), 'and program sections agree on each byte a listed function covers'
-    -- (`programs`): a's sections beside b's, and b's beside a's
+    -- listed functions joined in order of address without gap or overlap' (`texts`), each covering as many bytes as its symbol's size, 'and program
+    -- sections agree on each byte a listed function covers' (`programs`): a's sections beside b's, and b's beside a's
     → FirstHalf (objectOf a) (objectOf b) c × FirstHalf (objectOf b) (objectOf a) c
 demand-3-first a b c ya yb ha hb fa fb =
     first-half (objectOf a) (objectOf b) c

@@ -24,7 +24,7 @@ use Rattle.model.specs.Refusals.{refusalOf}
 use Rattle.model.specs.Patching.{patched, finish, accepted, verdict, load}
 use Rattle.model.specs.Lent.{functionCode}
 use Rattle.model.specs.ReadBack.{kindFrom}
-use Rattle.guarantees.specs.WordsOfDemand3.{Fair, Whole, Stands, functionsIn, Joined, Agree, FirstHalf}
+use Rattle.guarantees.specs.WordsOfDemand3.{Fair, Whole, Stands, functionsIn, Agree, FirstHalf}
 use Rattle.encoding.specs.Code.{part-is}
 use Rattle.guarantees.specs.ReadBackImage.{kind-back}
 use Rattle.guarantees.specs.AcceptedObjects.{Stated, Accepted, one-index, Fits, program-accepted, functions-section}
@@ -222,8 +222,8 @@ module _ (a b : Object) (wa : Stated a) (wb : Stated b) (ha : Accepted a) (hb : 
       found w =
           let t = w .0 in
           let k : kindOf t ≡ Kind.Text = same-text s t (w .2) e in
-          let p : each functionCode (functionsIn (s .index) (catalogueOf a)) ≡ s .bytes = text-is-its-functions a s wa ha m e .joined in
-          let q : each functionCode (functionsIn (t .index) (catalogueOf b)) ≡ t .bytes = text-is-its-functions b t wb hb (w .1) k .joined in
+          let p : each functionCode (functionsIn (s .index) (catalogueOf a)) ≡ s .bytes = text-is-its-functions a s wa ha m e .bytes in
+          let q : each functionCode (functionsIn (t .index) (catalogueOf b)) ≡ t .bytes = text-is-its-functions b t wb hb (w .1) k .bytes in
           let r : each functionCode (functionsIn (s .index) (catalogueOf a)) ≡ each functionCode (functionsIn (t .index) (catalogueOf b)) =
           λ i. each functionCode (functionsIn (sym (w .3) i) (eq i)) in
           (t, w .1, w .2, w .3, k ∙ sym e, sym q ∙ sym r ∙ p)
@@ -293,7 +293,7 @@ one-side : (a b : Object) (c : Catalogue) → Stated a → Stated b → Accepted
 one-side a b c wa wb ha hb ea eb fa =
     record {
       whole = λ s m k. stands s m k;
-      texts = λ s m k. rw (← ea) (joined s m k);
+      texts = λ s m k. rw (← ea) (text-is-its-functions a s wa ha m k);
       programs = λ s f m k n. program-agrees a b wa wb ha hb (ea ∙ sym eb) fa s f m k (rw (← ea) at n);
     }
   where
@@ -306,9 +306,6 @@ one-side a b c wa wb ha hb ea eb fa =
     stands s m (inr (inr k)) =
         let (t, n, p, q, u, v) = data-stands a b wa wb ha hb (ea ∙ sym eb) fa s m (rw k) (rw k) (rw k) in
         record { section = t; among = n; name = p; index = q; kind = u; bytes = v }
-
-    joined : (s : Section) → s ∈ a .sections → kindOf s ≡ Kind.Text → Joined s (functionsIn (s .index) (catalogueOf a))
-    joined s m k = let t = text-is-its-functions a s wa ha m k in record { bytes = t .joined; addresses = t .rise; offsets = t .follow }
 
 -- two objects that are accepted without patches or rewriting, with the same catalogue c
 pub first-half : (a b : Object) (c : Catalogue) → Stated a → Stated b → load a [] false ≡ accepted c → load b [] false ≡ accepted c

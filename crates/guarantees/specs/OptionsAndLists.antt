@@ -1,7 +1,7 @@
 -- Laws of options, tests and lists that the theorems cite: what an answer `none` or a test's value says, stores by place, and members.
-use mathlib.Core.Path.{_≡_, refl, ap, _∙_}
+use mathlib.Core.Path.{_≡_, refl, sym, ap, _∙_}
 use mathlib.Core.Logic.{_⊎_, inl, inr, ⊎-elim}
-use mathlib.Core.Bool.{Bool, true, false}
+use mathlib.Core.Bool.{Bool, true, false, cond}
 use mathlib.Core.List.{List, [], _∷_, _++_, map}
 use mathlib.Core.Option.{Option, none, some}
 use Prim.Native.Nat.{ℕ, suc, _+_, _-_, _<_, _≤_}
@@ -11,7 +11,7 @@ use lib.Dec.{eqb}
 use lib.ListN.{length, getD, set, length-set}
 use lib.Seq.{sets, getD-set-same, getD-set-other}
 pub use Rattle.lists.specs.Tests.{not-some, true-not-false, both-false, both-true}
-use Rattle.model.specs.Bytes.{each, firstIn, orElse, _∈_}
+use Rattle.model.specs.Bytes.{each, firstIn, find, orElse, _∈_}
 use Rattle.model.specs.declared.SectionIndex.{SectionIndex}
 use Rattle.model.specs.declared.SymbolIndex.{SymbolIndex}
 use Rattle.model.specs.Refusals.{refuse}
@@ -80,6 +80,16 @@ module _ {A : Type 0} where
   pub ∈-++-right : (z : A) (l r : List A) → z ∈ r → z ∈ (l ++ r)
   ∈-++-right z [] r m = m
   ∈-++-right z (x ∷ l) r m = inr (∈-++-right z l r m)
+
+  -- what is found is a member that passes the test
+  pub find-∈ : (p : A → Bool) (x : A) (l : List A) → find p l ≡ some x → (x ∈ l) × (p x ≡ true)
+  unfolding find firstIn
+  find-∈ p x [] e = not-some x (sym e)
+  find-∈ p x (y ∷ l) e = go (p y) refl e (find-∈ p x l)
+    where
+      go : (b : Bool) → p y ≡ b → orElse (cond b (some y) none) (find p l) ≡ some x → (find p l ≡ some x → (x ∈ l) × (p x ≡ true)) → (x ∈ (y ∷ l)) × (p x ≡ true)
+      go true h e r = let q : x ≡ y = cc in (inl q, ap p q ∙ h)
+      go false h e r = let (m, k) = r e in (inr m, k)
 
 module _ {A B : Type 0} where
   pub map-∈ : (f : A → B) (z : B) (l : List A) → z ∈ map f l → (x : A) × (x ∈ l) × (z ≡ f x)

@@ -1,10 +1,10 @@
 -- What a refusal of an object, a patch list or a deposit says: a number from 1 to 23, and the places that document 01 says this number names.
-use mathlib.Core.Path.{_≡_, refl, sym, ap, _∙_}
+use mathlib.Core.Path.{_≡_, refl, sym}
 use mathlib.Core.Logic.{inl, inr}
 use mathlib.Core.Bool.{Bool, true, false, cond, _&&_, _||_, not, Bool·beq}
 use mathlib.Core.List.{List, [], _∷_}
 use mathlib.Core.Option.{Option, none, some}
-use Prim.Native.Nat.{ℕ, zero, suc, _+_, _≤_}
+use Prim.Native.Nat.{ℕ, suc, _+_, _≤_}
 use native.Mathlib.Omega.{arith}
 use borrow.Author.Tests.{leb-true}
 use lib.Dec.{eqb, ltb, leb}
@@ -24,12 +24,13 @@ use Rattle.model.specs.ProgramName.{fromStr, sectionNumber}
 use Rattle.model.specs.LicenceVersion.{parseLicense, licenseNumber, parseVersion, versionNumber}
 use Rattle.model.specs.Instruction.{invalidProgramCode}
 use Rattle.model.specs.Catalogue.{Map}
-use Rattle.model.specs.Symbols.{liesIn, isProgram, symbolsOf, programSymbols, isText, definedText, symbolAt, Stop, stops, top, walkOf, firstNamed}
+use Rattle.model.specs.Symbols.{liesIn, isProgram, symbolsOf, programSymbols, isText, definedText, Stop, walkOf, firstNamed}
 use Rattle.model.specs.Contents.{programOffset, invalidMapDefinition, recordOf, catalogueOf}
 use Rattle.model.specs.Refusals.{noSection, noSymbol, ofSection, ofSymbol, ofEntry, ofNumber, isEmpty, untargeted, passes, relocRefusal, licenceRefusal, versionRefusal, programSymbolRefusal, programRefusal, mapSymbolRefusal, mapsRefusal, sharedRefusal, stopRefusal, textRefusal, kindRefusal, sectionRefusal, objectRefusal, bearers, placeRefusal, bearerRefusal, entryRefusal, patchRefusal, refusalOf}
 use Rattle.model.specs.Deposit.{frameOk, streamOk, objectOf, hasBtf, ofDeposit, depositRefusal}
-use Rattle.guarantees.specs.OptionsAndLists.{not-some, true-not-false, both-true}
+use Rattle.guarantees.specs.OptionsAndLists.{true-not-false, both-true, find-∈}
 use Rattle.guarantees.specs.TableLaws.{keep-∈}
+use Rattle.guarantees.specs.AcceptedObjects.{stop-∈}
 
 -- '4 to 17 name the section'
 abbrev pub namesSection : ℕ → Bool
@@ -69,36 +70,6 @@ Said o ps (some r) = (1 ≤ r .number) × (r .number ≤ 23) × Names o ps r
 
 pub record Says (o : Object) (ps : List Patch) (r : Option Refusal) : Type 0 where
   pub said : Said o ps r
-
--- ---- what is found is a member
-
-find-∈ : {A : Type 0} (p : A → Bool) (x : A) (xs : List A) → find p xs ≡ some x → x ∈ xs
-unfolding find firstIn
-find-∈ p x [] e = not-some x (sym e)
-find-∈ p x (y ∷ xs) e = go (p y) e (find-∈ p x xs)
-  where
-    go : (b : Bool) → orElse (cond b (some y) none) (find p xs) ≡ some x → (find p xs ≡ some x → x ∈ xs) → x ∈ (y ∷ xs)
-    go true e r = let q : x ≡ y = cc in inl q
-    go false e r = inr (r e)
-
--- the symbol that a walk meets is among those that it searches
-stop-∈ : (n : ℕ) (s : Section) (ys : List Symbol) (at : ℕ) (p : Stop) (y : Symbol) → p ∈ stops n s ys at → p .met ≡ some y → y ∈ ys
-unfolding stops symbolAt
-stop-∈ zero s ys at p y m e = absurd m
-stop-∈ (suc n) s ys at p y m e = go (ltb at (length (s .bytes))) (symbolAt s ys at) refl m (λ z k. stop-∈ n s ys (at + z .size) p y k e)
-  where
-    here : (b : Bool) → cond b (find (λ z. eqb (z .address) (s .address + at)) ys) none ≡ some y → y ∈ ys
-    here true q = find-∈ (λ z. eqb (z .address) (s .address + at)) y ys q
-    here false q = not-some y (sym q)
-
-    go : (b : Bool) (t : Option Symbol) → symbolAt s ys at ≡ t
-        → p ∈ cond b (record { at = at; met = t } ∷ maybe t [] (λ z. stops n s ys (at + z .size))) []
-        → ((z : Symbol) → p ∈ stops n s ys (at + z .size) → y ∈ ys)
-        → y ∈ ys
-    go true t q (inl k) r = here (leb (s .address + at) top) (q ∙ sym (ap (λ x. x .met) k) ∙ e)
-    go true none q (inr k) r = absurd k
-    go true (some z) q (inr k) r = r z k
-    go false t q k r = absurd k
 
 -- ---- ways to join refusals
 
@@ -254,7 +225,7 @@ module _ (o : Object) (ps : List Patch) where
   text-says s m =
       or-says (shared-says s [] (definedText o s) m (defined-∈ s))
       (first-says (stopRefusal s) (walkOf o s)
-      (λ p k. stop-says s p m (λ y e. defined-∈ s y (stop-∈ (length (s .bytes)) s (definedText o s) 0 p y k e))))
+      (λ p k. stop-says s p m (λ y e. defined-∈ s y (stop-∈ (length (s .bytes)) s (definedText o s) 0 p y k e .0))))
 
   kind-says : (s : Section) → s ∈ o .sections → Says o ps (kindRefusal o s)
   unfolding kindRefusal
@@ -277,7 +248,7 @@ module _ (o : Object) (ps : List Patch) where
 
   named-∈ : (name : List ℕ) (s : Section) → firstNamed name (o .sections) ≡ some s → s ∈ o .sections
   unfolding firstNamed
-  named-∈ name s e = find-∈ (λ t. same name (t .name)) s (o .sections) e
+  named-∈ name s e = find-∈ (λ t. same name (t .name)) s (o .sections) e .0
 
   object-says : Says o ps (objectRefusal o)
   unfolding objectRefusal

@@ -1,5 +1,5 @@
 -- Demand 3, first half, the text: its walk fills the data with functions, and the catalogue lists just those, in that order.
-use mathlib.Core.Path.{_≡_, refl, sym, ap, _∙_}
+use mathlib.Core.Path.{_≡_, refl, sym, ap, _∙_, subst}
 use mathlib.Core.Logic.{inl, inr}
 use mathlib.Core.Bool.{Bool, true, false, cond}
 use mathlib.Core.List.{List, [], _∷_, _++_, append-nil}
@@ -18,22 +18,22 @@ use Rattle.model.specs.SectionKind.{kindOf}
 use Rattle.model.specs.Catalogue.{Function, functionKey}
 use Rattle.model.specs.Table.{tableOf}
 use Rattle.model.specs.Instruction.{eight, instructions}
-use Rattle.model.specs.Symbols.{symbolAt, stops, walkOf, definedText}
+use Rattle.model.specs.Symbols.{symbolAt, Stop, stops, walkOf, definedText}
 use Rattle.model.specs.Contents.{functionAt, textFunction, functionsOf, catalogueOf}
 use Rattle.model.specs.Refusals.{stopRefusal}
-use Rattle.guarantees.specs.OptionsAndLists.{not-some, orElse-none}
+use Rattle.guarantees.specs.OptionsAndLists.{not-some, orElse-none, firstIn-none, each-∈}
 use Rattle.guarantees.specs.TableLaws.{before-second, keep-table, table-sorted, Sorted}
 use Rattle.model.specs.Lent.{functionCode}
 use Rattle.model.specs.Bytes.{AllBytes}
-use Rattle.guarantees.specs.WordsOfDemand3.{functionsIn, Rise, Follow}
+use Rattle.guarantees.specs.WordsOfDemand3.{functionsIn, Rise, Follow, Covers, Joined}
 use Rattle.encoding.specs.Code.{part-is}
-use Rattle.guarantees.specs.AcceptedObjects.{Rising, Stated, Accepted, rising-above, text-accepted, Met, stop-accepted, functions-section}
+use Rattle.guarantees.specs.AcceptedObjects.{Rising, Stated, Accepted, rising-above, text-accepted, Met, stop-accepted, stop-∈, functions-section}
 
 -- functions that fill the data d from an offset on, from an address on
-pub record Tiles (d : List ℕ) (at low : ℕ) (fs : List Function) : Type 0 where
-  pub joined : each functionCode fs ≡ drop at d
-  pub follow : Follow at fs
-  pub rise : Rise low fs
+record Tiles (d : List ℕ) (at low : ℕ) (fs : List Function) : Type 0 where
+  joined : each functionCode fs ≡ drop at d
+  follow : Follow at fs
+  rise : Rise low fs
 
 rise-from : (a b : ℕ) (fs : List Function) → a ≤ b → Rise b fs → Rise a fs
 rise-from a b [] h r = tt
@@ -69,6 +69,31 @@ walk-tiles s ys (suc n) at b l h = go (ltb at (length (s .bytes))) (symbolAt s y
           joined = (λ i. code i ++ (t .joined ∙ sym long) i) ∙ take-append-drop (y .size) (drop at (s .bytes));
           follow = (refl, rw len (t .follow));
           rise = (omega arith, rise-from (suc (s .address + at)) (s .address + (at + y .size)) (each (textFunction s) (stops n s ys (at + y .size))) (omega arith) (t .rise));
+        }
+
+-- each function covers as many bytes as the symbol that the walk meets has
+walk-covers : (o : Object) (s : Section) (f : Function) → AllBytes (s .bytes) → firstIn (stopRefusal s) (walkOf o s) ≡ none
+    → f ∈ each (textFunction s) (walkOf o s) → Covers o s f
+unfolding walkOf textFunction functionAt
+walk-covers o s f b h m = let (p, n, k) = each-∈ (textFunction s) f (walkOf o s) m in go p (p .met) n refl k
+  where
+    go : (p : Stop) (t : Option Symbol) → p ∈ walkOf o s → p .met ≡ t → f ∈ maybe t [] (λ y. functionAt s (s .address + p .at) (p .at) y ∷ []) → Covers o s f
+    go p none n e k = absurd k
+    go p (some y) n e (inr k) = absurd k
+    go p (some y) n e (inl q) =
+        let u : stopRefusal s p ≡ none = firstIn-none (stopRefusal s) p (walkOf o s) h n in
+        let v : Met s (p .at) y = stop-accepted s (p .at) y (subst (λ t. stopRefusal s (record { at = p .at; met = t }) ≡ none) e u) in
+        let v₁ : p .at + y .size ≤ length (s .bytes) = v .inside in
+        let (i, a) = stop-∈ (length (s .bytes)) s (definedText o s) 0 p y n e in
+        let z : f .offset ≡ p .at = ap (λ g. g .offset) q in
+        let c : functionCode f ≡ part (s .bytes) (p .at) (y .size) = ap functionCode q ∙ part-is (s .bytes) (p .at) (y .size) v₁ (v .eights) b in
+        record {
+          symbol = y;
+          of = i;
+          at = a ∙ ap (λ x. s .address + x) (sym z);
+          listed = q ∙ (λ r. functionAt s (sym a r) (sym z r) y);
+          covered = ap length c ∙ length-take-le (y .size) (drop (p .at) (s .bytes)) (rw length-drop (omega arith));
+          bytes = c ∙ ap (λ x. part (s .bytes) x (y .size)) (sym z);
         }
 
 -- ---- from the section's functions to the catalogue's
@@ -141,10 +166,9 @@ text-functions : (o : Object) (s : Section) → kindOf s ≡ Kind.Text → funct
 unfolding functionsOf
 text-functions o s e = rw e
 
--- In an accepted object each text section's data are its listed functions joined: in order of address, each offset where the
--- previous ends, from 0 on.
+-- In an accepted object each text section's data are its listed functions joined.
 pub text-is-its-functions : (o : Object) (s : Section) → Stated o → Accepted o → s ∈ o .sections → kindOf s ≡ Kind.Text
-    → Tiles (s .bytes) 0 (s .address) (functionsIn (s .index) (catalogueOf o))
+    → Joined o s (functionsIn (s .index) (catalogueOf o))
 unfolding catalogueOf walkOf
 text-is-its-functions o s w h m e =
     let walk = each (textFunction s) (walkOf o s) in
@@ -158,4 +182,4 @@ text-is-its-functions o s w h m e =
     ∙ ap (tableOf functionKey) (keep-section o 0 (o .sections) s (w .rising) m ∙ f)
     ∙ table-sorted functionKey walk (rise-sorted (s .index) (s .address) walk n r)
     in
-    rw q (record { joined = t .joined; follow = t .follow; rise = r })
+    rw q (record { bytes = t .joined; addresses = r; offsets = t .follow; functions = λ g k. walk-covers o s g (w .bytes s m) (text-accepted o s h m e) k })

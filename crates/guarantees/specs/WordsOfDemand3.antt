@@ -12,13 +12,13 @@ use Rattle.lists.specs.Tab.{tab}
 use Rattle.model.specs.declared.SectionIndex.{SectionIndex}
 use Rattle.model.specs.declared.EbpfSectionKind.{EbpfSectionKind as Kind}
 use Rattle.model.specs.declared.BpfInsn.{BpfInsn}
-use Rattle.model.specs.Bytes.{keep, each, orElse, maybe, _∈_}
+use Rattle.model.specs.Bytes.{keep, each, orElse, maybe, part, _∈_}
 use Rattle.model.specs.Object.{Section, Symbol, Object, Patch}
 use Rattle.model.specs.SectionKind.{kindOf}
 use Rattle.model.specs.Instruction.{statedFor}
 use Rattle.model.specs.Catalogue.{Function, Map, Catalogue}
-use Rattle.model.specs.Symbols.{liesIn, symbolsOf, programSymbols}
-use Rattle.model.specs.Contents.{programFunction}
+use Rattle.model.specs.Symbols.{liesIn, symbolsOf, programSymbols, definedText}
+use Rattle.model.specs.Contents.{functionAt, programFunction}
 use Rattle.model.specs.Refusals.{bearers}
 use Rattle.model.specs.Lent.{functionCode}
 
@@ -57,11 +57,23 @@ abbrev pub Follow : ℕ → List Function → Type 0
 Follow at [] = Unit {0}
 Follow at (f ∷ fs) = (f .offset ≡ at) × Follow (at + length (functionCode f)) fs
 
--- 'text being exactly its listed functions joined in order of address without gap or overlap'
-pub record Joined (s : Section) (fs : List Function) : Type 0 where
+-- 'Of its section's data a listed function covers as many bytes as its symbol's size, from where its bytes begin (in text, its offset)': text section s of o,
+-- and its listed function f
+pub record Covers (o : Object) (s : Section) (f : Function) : Type 0 where
+  -- the symbol of f
+  pub symbol : Symbol
+  pub of : symbol ∈ definedText o s
+  pub at : symbol .address ≡ s .address + f .offset
+  pub listed : f ≡ functionAt s (symbol .address) (f .offset) symbol
+  pub covered : length (functionCode f) ≡ symbol .size
+  pub bytes : functionCode f ≡ part (s .bytes) (f .offset) (symbol .size)
+
+-- 'text being exactly its listed functions joined in order of address without gap or overlap': text section s of o
+pub record Joined (o : Object) (s : Section) (fs : List Function) : Type 0 where
   pub bytes : each functionCode fs ≡ s .bytes
   pub addresses : Rise (s .address) fs
   pub offsets : Follow 0 fs
+  pub functions : (f : Function) → f ∈ fs → Covers o s f
 
 -- 'program sections agree on each byte a listed function covers': program section s of a, and its listed function f. The section stands in b too.
 -- 'Of its section's data a listed function covers as many bytes as its symbol's size, from where its bytes begin'
@@ -83,7 +95,7 @@ pub record Agree (a b : Object) (s : Section) (f : Function) : Type 0 where
 -- what is said of a's sections beside b's, where both have the catalogue c
 pub record FirstHalf (a b : Object) (c : Catalogue) : Type 0 where
   pub whole : (s : Section) → s ∈ a .sections → Whole (kindOf s) → Stands b s
-  pub texts : (s : Section) → s ∈ a .sections → kindOf s ≡ Kind.Text → Joined s (functionsIn (s .index) c)
+  pub texts : (s : Section) → s ∈ a .sections → kindOf s ≡ Kind.Text → Joined a s (functionsIn (s .index) c)
   pub programs : (s : Section) (f : Function) → s ∈ a .sections → kindOf s ≡ Kind.Program → f ∈ functionsIn (s .index) c → Agree a b s f
 
 -- ---- the second half
