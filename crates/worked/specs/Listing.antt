@@ -61,18 +61,10 @@ example-lent : called example [] [] true (room 13 8 3 28 4 62) ≡ record {
 unfolding called
 example-lent = refl
 
--- 'a longer one prints `refused 1 0 0`'; an empty one is refused by the load
+-- 'a longer one prints `refused 1 0 0`'
 longer-text : listed (room 0 0 0 0 0 0) (replicate 65537 0) ≡ lines ("refused 1 0 0" ∷ [])
 unfolding listed
 longer-text = refl
-
-empty-text : listed (room 100 100 10 100 100 1000) [] ≡ lines ("refused 1 0 0" ∷ [])
-unfolding listed
-empty-text = refl
-
-small-text : listed (room 12 7 2 27 0 60) example ≡ lines ("refused 24 0 0" ∷ [])
-unfolding listed
-small-text = refl
 
 symbol-text : listed (room 100 100 10 100 100 1000) (deposit 0 (text 7 "xdp" (1 ∷ []) ∷ []) (func 40 7 "p" 0 2 ∷ []) []) ≡ lines ("refused 10 7 40" ∷ [])
 unfolding listed

@@ -1,11 +1,14 @@
--- '24. A lent table or byte buffer is smaller than the catalogue': by each table and by the bytes, one element short; and said last.
+-- '24. A lent table or byte buffer is smaller than the catalogue': each lent table and the bytes, filled, and one element short.
 use mathlib.Core.Path.{_≡_, refl}
 use mathlib.Core.Bool.{false}
-use mathlib.Core.List.{List, [], _∷_}
+use mathlib.Core.List.{List, [], _∷_, _++_}
 use Prim.Native.Nat.{ℕ}
 use lib.ListN.{replicate}
+use Rattle.model.specs.declared.Endianness.{Endianness}
+use Rattle.model.specs.declared.KernelVersion.{KernelVersion}
 use Rattle.model.specs.declared.Answer.{Answer}
 use Rattle.model.specs.declared.Room.{Room}
+use Rattle.model.specs.Bytes.{ascii}
 use Rattle.worked.specs.Write.{text, plain, relocated, func, reloc, deposit}
 use Rattle.worked.specs.Run.{called, room, row}
 
@@ -17,13 +20,23 @@ small =
     (func 1 1 "p" 0 8 ∷ [])
     (reloc 0 1 64 ∷ [])
 
+exact : called small [] [] false (room 8 7 1 27 4 28) ≡ record {
+  reply = Answer.Accepted (record { order = Endianness.Little; version = KernelVersion.Any; license = 3; sections = 2; programs = 1; functions = 1; maps = 1; relocations = 1; bytes = 28 });
+  lent = record {
+    sections = 3 ∷ 5 ∷ 2 ∷ 2 ∷ 8 ∷ 3 ∷ 1 ∷ 8 ∷ [];
+    programs = 11 ∷ 1 ∷ 6 ∷ 0 ∷ 0 ∷ 1 ∷ 0 ∷ [];
+    functions = row 1 0 0 12 1 13 8 ∷ [];
+    maps = 21 ∷ 5 ∷ 2 ∷ 4 ∷ 0 ∷ 26 ∷ 2 ∷ 2 ∷ 4 ∷ 2 ∷ 1 ∷ 0 ∷ 0 ∷ 0 ∷ replicate 13 0;
+    relocations = 1 ∷ 0 ∷ 64 ∷ 1 ∷ [];
+    bytes = ascii "GPL.dataxdppp" ++ (149 ∷ replicate 7 0 ++ (ascii ".data" ++ (7 ∷ 8 ∷ [])));
+  };
+}
+unfolding called
+exact = refl
+
 -- the number that is said, 0 where the catalogue is given
 abbrev said : Room → ℕ
 said r = elim (called small [] [] false r .reply) as (λ a. ℕ) [ Answer.Accepted h ↦ 0 | Answer.Refused q ↦ q .number ]
-
-exact : said (room 8 7 1 27 4 28) ≡ 0
-unfolding called
-exact = refl
 
 sections-short : said (room 7 7 1 27 4 28) ≡ 24
 unfolding called
@@ -65,14 +78,3 @@ short-zeroes : called small [] [] false (room 9 8 2 1 5 3)
     }
 unfolding called
 short-zeroes = refl
-
--- '24 comes last': nothing is lent, and another number is said; where nothing is wrong and nothing is listed, nothing need be lent but the licence
-others-first : called (deposit 0 (text 3 "xdpx" (0 ∷ []) ∷ []) [] []) [] [] false (room 0 0 0 0 0 0) .reply
-    ≡ Answer.Refused (record { number = 8; section = record { 0 = 3 }; symbol = record { 0 = 0 }; entry = 0 })
-unfolding called
-others-first = refl
-
-entries-first : called small (0 ∷ []) [] false (room 0 0 0 0 0 0) .reply
-    ≡ Answer.Refused (record { number = 18; section = record { 0 = 0 }; symbol = record { 0 = 0 }; entry = 1 })
-unfolding called
-entries-first = refl

@@ -50,11 +50,6 @@ unfoldable pub listed : Room → List ℕ → List ℕ
 unfolding called programFrom kindFrom sectionFrom programRead functionRead mapRead relocationRead readBack digits line variantName programLine functionLine mapLine catalogueText refusalText textOf listingOf
 listed room d = listingOf room d
 
--- the number of a refusal, 0 of a catalogue
-abbrev pub numberOf : Verdict → ℕ
-numberOf (refused r) = r .number
-numberOf (accepted c) = 0
-
 abbrev pub noCatalogue : Catalogue
 noCatalogue =
     record { order = Endianness.Little; licence = []; version = KernelVersion.Any; sections = []; programs = []; functions = []; maps = []; relocations = [] }

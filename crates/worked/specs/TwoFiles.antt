@@ -49,11 +49,6 @@ second-refused : loaded second (patch "rate" (9 ∷ 0 ∷ 0 ∷ 0 ∷ []) 1 ∷ 
 unfolding loaded
 second-refused = refl
 
--- also where the name need not exist, and behind an entry that is passed over
-second-refused-too : loaded second (patch "scale" [] 0 ∷ patch "rate" (9 ∷ 0 ∷ 0 ∷ 0 ∷ []) 0 ∷ []) false ≡ no 19 0 0 2
-unfolding loaded
-second-refused-too = refl
-
 -- without a patch of `rate` it is accepted, with both maps
 second-accepted : catalogueIn (loaded second (patch "scale" [] 0 ∷ []) false) .maps
     ≡ dataMapOf ".data" 2 Kind.Data (words 2 4 4 1 0 0 0) (1 ∷ 0 ∷ 0 ∷ 0 ∷ [])

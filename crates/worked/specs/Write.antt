@@ -53,9 +53,6 @@ func i s n a z = record { index = i; section = s; name = ascii n; address = a; s
 abbrev pub global : ℕ → ℕ → String → ℕ → ℕ → Sym
 global i s n a z = record { index = i; section = s; name = ascii n; address = a; size = z; kind = 2; definition = 1 }
 
-abbrev pub undefined : Sym → Sym
-undefined y = record { index = y .index; section = y .section; name = y .name; address = y .address; size = y .size; kind = y .kind; definition = 0 }
-
 -- 'absent'
 abbrev pub absent : ℕ
 absent = 4294967295
