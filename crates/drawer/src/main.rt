@@ -100,12 +100,13 @@ fn record(d: &[u8], n: usize) -> u64 {
     10 * stream::wide64(w[5]) + stream::wide64(w[6])
 }
 
-// The sixth word is 3 and the seventh 1; a byte follows.
+// The sixth word is 3 and the seventh 1; a byte follows. A record of 27 ends before a byte that isn't 0: read with it, the pinning would be refused.
 fn records() {
     let d = b"\0\0\0\0\0\0\0\0\0\0\0\0\0\0\0\0\0\0\0\0\x03\0\0\0\x01\0\0\0\xFF";
+    let cut = b"\0\0\0\0\0\0\0\0\0\0\0\0\0\0\0\0\0\0\0\0\x03\0\0\0\x01\0\0\xFF";
     line(b"record of 19", 16, record(d, 19));
     line(b"record of 20, id and pinning", 0, record(d, 20));
-    line(b"record of 27, id and pinning", 31, record(d, 27));
+    line(b"record of 27, id and pinning", 31, record(cut, 27));
     line(b"record of 28, id and pinning", 31, record(d, 28));
     line(b"record of 29, id and pinning", 31, record(d, 29));
 }

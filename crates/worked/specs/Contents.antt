@@ -4,6 +4,7 @@ use mathlib.Core.Bool.{Bool, true, false}
 use mathlib.Core.List.{List, [], _∷_, _++_, map}
 use Prim.Native.Nat.{ℕ}
 use lib.IntN.{ℤ, pos, negsuc}
+use lib.ListN.{take}
 use Rattle.model.specs.declared.Endianness.{Endianness}
 use Rattle.model.specs.declared.EbpfSectionKind.{EbpfSectionKind as Kind}
 use Rattle.model.specs.declared.KernelVersion.{KernelVersion}
@@ -96,8 +97,9 @@ not-rewritten = refl
 
 -- ---- Maps
 
--- symbols of any kind, by name; short records are zero-filled, bytes past 28 unread
-legacy-maps : card (plain 3 "maps" (record28 ++ (9 ∷ [])) ∷ []) (func 1 3 "b" 0 29 ∷ global 2 3 "a" 8 20 ∷ global 3 3 "" 0 27 ∷ []) [] .maps ≡ legacyMapOf "" 3 3 (words 1 4 8 2 3 5 1)
+-- symbols of any kind, by name; short records are zero-filled, whatever byte follows them, and bytes past 28 unread
+legacy-maps : card (plain 3 "maps" (record28 ++ (9 ∷ [])) ∷ plain 4 "maps/27" (take 27 record28 ++ (255 ∷ [])) ∷ []) (func 1 3 "b" 0 29 ∷ global 2 3 "a" 8 20 ∷ global 3 4 "" 0 27 ∷ []) [] .maps
+    ≡ legacyMapOf "" 4 3 (words 1 4 8 2 3 5 1)
     ∷ legacyMapOf "a" 3 2 (words 8 2 3 5 1 0 0)
     ∷ legacyMapOf "b" 3 1 (words 1 4 8 2 3 5 1)
     ∷ []
