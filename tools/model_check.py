@@ -2,7 +2,7 @@
 
 usage: model_check.py FOLDER
 
-FOLDER has the files stdin and stdout, in the form of crates/case_lines: the cases, and what the load call gave for each."""
+FOLDER has the files stdin and stdout, in the form of crates/replay_lines: the cases, and what the load call gave for each."""
 import os
 import sys
 

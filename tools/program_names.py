@@ -2,7 +2,7 @@
 """program_names.py ORACLE CRATE: writes CRATE/stdin, names of program sections one a line, and CRATE/stdout, what aya-obj makes of each.
 
 ORACLE is aya-obj built as a program that reads lines 'ELF - 0' under --batch and prints what it parsed of each file, closed by 'end'.
-Run at the repository's top:  python3 tools/program_names.py ORACLE crates/program_section_test
+Run at the repository's top:  python3 tools/program_names.py ORACLE crates/test_program_section
 A line of stdout is the name, then the variant's number in the crate's order and its two values, or 8 where the crate refuses the name."""
 import os
 import re

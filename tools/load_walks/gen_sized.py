@@ -2,7 +2,7 @@ from common import *
 from heads import HEADS
 S = INNER
 fn = fn_of(MIR, 'load_opened::load_64'); SS = stmts(fn[5])
-NAMES = {'load_core::load_core': '#load-core', 'function_table::fill': '#fill'}
+NAMES = {'load_core::load_core': '#load-core', 'rows_functions::fill': '#fill'}
 MIRT = locals_text(fn, ['abbrev locals : ℕ → List Local', 'locals N ='])
 CUT = next(k for k, x in enumerate(SS) if x[0] == 'call') + 1
 def body_text(name, ss, last):

@@ -16,9 +16,9 @@ use denote.Triple.Table.{{entered, cited}}
 use Rattle.load_core.proofs.load_core.Symbol as core-def
 use Rattle.load_core.proofs.load_core.Symbol.{{name as #load-core}}
 use Rattle.load_core.proofs.load_core.Met as core-thm
-use Rattle.function_table.proofs.fill.Symbol as fill-def
-use Rattle.function_table.proofs.fill.Symbol.{{name as #fill}}
-use Rattle.function_table.proofs.fill.Met as fill-thm
+use Rattle.rows_functions.proofs.fill.Symbol as fill-def
+use Rattle.rows_functions.proofs.fill.Symbol.{{name as #fill}}
+use Rattle.rows_functions.proofs.fill.Met as fill-thm
 use Rattle.load_opened.proofs.{f}.Key.{{name as #{U}}}
 use Rattle.load_opened.proofs.{f} as load′
 use Rattle.load_opened.proofs.{f}.Statement as stated
@@ -34,7 +34,7 @@ unfolding code.routine tablesOf
     (tables 𝓤 H 𝓜 𝓡 code.env .C) (tables 𝓤 H 𝓜 𝓡 code.env .Λ) #{U} code.function (code.unfolded 𝓤 H 𝓜 𝓡)
     (sized 𝓤 H (𝓖 .A) (givenOf 𝓤 H 𝓜 𝓖) (𝓜 .mem) (𝓡 .run) {N} room ({lit} w64 {N}) ({con}) {asks} ({enough}) (tablesOf 𝓤 H 𝓜 (tables 𝓤 H 𝓜 𝓡 code.env))
     (cited 𝓤 H (Core 𝓤 H (𝓖 .A) (𝓜 .mem) (𝓡 .run)) 𝓜 𝓡 code.env #load-core core-def.routine code.calls-load-core·load-core (core-thm.met 𝓤 H 𝓜 𝓖 𝓡))
-    (cited 𝓤 H (Fill 𝓤 H (𝓖 .A) (𝓜 .mem) (𝓡 .run)) 𝓜 𝓡 code.env #fill fill-def.routine code.calls-function-table·fill (fill-thm.met 𝓤 H 𝓜 𝓖 𝓡)))
+    (cited 𝓤 H (Fill 𝓤 H (𝓖 .A) (𝓜 .mem) (𝓡 .run)) 𝓜 𝓡 code.env #fill fill-def.routine code.calls-rows-functions·fill (fill-thm.met 𝓤 H 𝓜 𝓖 𝓡)))
 '''
 def put(f, t):
     os.makedirs(OUT + '/proofs/' + f, exist_ok=True); open(OUT + '/proofs/%s/Proof.antt' % f, 'w').write(t)

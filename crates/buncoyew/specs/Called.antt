@@ -7,7 +7,7 @@ use Rattle.model.specs.declared.Refusal.{Refusal}
 use Rattle.model.specs.declared.Summary.{Summary}
 use Rattle.model.specs.Lent.{Lent, Outcome}
 use Rattle.model.specs.Refusals.{noSection, noSymbol}
-use Rattle.function_table.specs.declared.Found.{Found}
+use Rattle.rows_functions.specs.declared.Found.{Found}
 use Rattle.buncoyew.specs.declared.LoadAnswer.{LoadAnswer}
 
 abbrev pub orderNumber : Endianness → ℕ

@@ -2,10 +2,8 @@
 ghost use mathlib.Core.Path.{_≡_};
 ghost use mathlib.Core.List.{[], _∷_};
 ghost use Rattle.model.specs.Lent.{lent, roomIn, loadOf};
-ghost use Rattle.function_table.specs.Search.{foundIn};
+ghost use Rattle.rows_functions.specs.Search.{foundIn};
 ghost use Rattle.buncoyew.specs.Called.{orderNumber, statedBit, statedVersion, acceptedAnswer, refusedAnswer, answerOf, rowNumber, call, callOf};
-use function_table::Found;
-use function_table::find;
 use load::load;
 use model::Answer;
 use model::Endianness;
@@ -15,6 +13,8 @@ use model::Refusal;
 use model::SectionIndex;
 use model::Summary;
 use model::SymbolIndex;
+use rows_functions::Found;
+use rows_functions::find;
 
 // An answer as numbers: `number` is 0 where the deposit is accepted, and then the places are 0; else it is the refusal's, and what follows `entry` is 0.
 #[repr(C)]

@@ -26,9 +26,9 @@ use Rattle.stream.specs.Framed.{stream-inside}
 use Rattle.records.specs.Records.{namesAt, dataAt, headAt, depositSection, depositSymbol, depositRelocation}
 use Rattle.object_view.specs.declared.View.{View}
 use Rattle.records.specs.View.{depositView}
-use Rattle.rules.specs.Parts.{head-stream, parts-sections, parts-symbols, parts-relocations, parts-bytes}
-use Rattle.rules.specs.Rules.{ruled, nameByte, nameAt, nameOkAt, sectionOkAt, symbolOkAt, sectionsOk, symbolsOk, relocationsOk, restOk, recordsOkAt, someBtf, ruled-all, name-cut}
-use Rattle.rules.specs.declared.Checked.{Checked}
+use Rattle.deposit_rules.specs.Parts.{head-stream, parts-sections, parts-symbols, parts-relocations, parts-bytes}
+use Rattle.deposit_rules.specs.Rules.{ruled, nameByte, nameAt, nameOkAt, sectionOkAt, symbolOkAt, sectionsOk, symbolsOk, relocationsOk, restOk, recordsOkAt, someBtf, ruled-all, name-cut}
+use Rattle.deposit_rules.specs.declared.Checked.{Checked}
 use Rattle.object_view.specs.declared.Opened.{Opened}
 use Rattle.deposit.specs.Open.{openedOf, streamLength, streamOkAt, checkedStream, Framed, framed, btf, answerOf, opened-1, opened-checked}
 

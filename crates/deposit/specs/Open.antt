@@ -15,14 +15,14 @@ use Rattle.model.specs.Deposit.{mostBytes, checksOk, frameOk, streamOf, headOf,
 use Rattle.stream.specs.Framed.{length-stream}
 use Rattle.records.specs.Records.{headAt}
 use Rattle.records.specs.View.{depositView}
-use Rattle.rules.specs.Parts.{head-stream}
-use Rattle.rules.specs.Rules.{sectionsOk, symbolsOk, relocationsOk, restOk, recordsOkAt, someBtf, records-ok, btf-is}
-use Rattle.rules.specs.declared.Checked.{Checked}
+use Rattle.deposit_rules.specs.Parts.{head-stream}
+use Rattle.deposit_rules.specs.Rules.{sectionsOk, symbolsOk, relocationsOk, restOk, recordsOkAt, someBtf, records-ok, btf-is}
+use Rattle.deposit_rules.specs.declared.Checked.{Checked}
 use Rattle.object_view.specs.declared.Opened.{Opened}
 
 -- '1 to 3 name 0 0 0.'
-abbrev pub goesBack : ℕ → Refusal
-goesBack n = record { number = n; section = noSection; symbol = noSymbol; entry = 0 }
+abbrev pub withoutPlace : ℕ → Refusal
+withoutPlace n = record { number = n; section = noSection; symbol = noSymbol; entry = 0 }
 
 -- the view of a deposit that passes, or why it goes back
 unfoldable pub openedOf : List ℕ → Opened
@@ -94,11 +94,11 @@ module _ (d : List ℕ) (f : Framed d) where
 
 -- the answer of a deposit whose blocks pass, by what its stream says
 abbrev pub answerOf : Checked → Head → Opened
-answerOf Checked.Broken h = Opened.Refused (goesBack 2)
-answerOf Checked.Btf h = Opened.Refused (goesBack 3)
+answerOf Checked.Broken h = Opened.Refused (withoutPlace 2)
+answerOf Checked.Btf h = Opened.Refused (withoutPlace 3)
 answerOf Checked.Fine h = Opened.View (depositView h)
 
-pub opened-1 : (d : List ℕ) → frameOk d ≡ false → openedOf d ≡ Opened.Refused (goesBack 1)
+pub opened-1 : (d : List ℕ) → frameOk d ≡ false → openedOf d ≡ Opened.Refused (withoutPlace 1)
 unfolding openedOf depositRefusal
 opened-1 d e = rw e
 

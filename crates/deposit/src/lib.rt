@@ -1,7 +1,14 @@
 // The call that opens a deposit, or says why it goes back: numbers 1 to 3.
 ghost use mathlib.Core.Path.{_≡_};
-ghost use Rattle.deposit.specs.Open.{goesBack, checkedStream, openedOf};
-use frame::frame_ok;
+ghost use Rattle.deposit.specs.Open.{withoutPlace, checkedStream, openedOf};
+use deposit_frame::frame_ok;
+use deposit_rules::Checked;
+use deposit_rules::check_sections;
+use deposit_rules::head_ok;
+use deposit_rules::names_ok;
+use deposit_rules::relocations_ok;
+use deposit_rules::rest_ok;
+use deposit_rules::symbols_ok;
 use model::Head;
 use model::Refusal;
 use model::SectionIndex;
@@ -10,13 +17,6 @@ use object_view::Opened;
 use records::deposit_view;
 use records::end_of;
 use records::head;
-use rules::Checked;
-use rules::check_sections;
-use rules::head_ok;
-use rules::names_ok;
-use rules::relocations_ok;
-use rules::rest_ok;
-use rules::symbols_ok;
 
 fn check_stream(d: &[u8], h: Head) -> Checked
     ensures { λ r. ⌜ r ≡ checkedStream (now (d .entry)) h ⌝ }
@@ -47,7 +47,7 @@ fn check_stream(d: &[u8], h: Head) -> Checked
 }
 
 fn refused(number: u32) -> Opened
-    ensures { λ r. ⌜ r ≡ Opened.Refused (goesBack number) ⌝ }
+    ensures { λ r. ⌜ r ≡ Opened.Refused (withoutPlace number) ⌝ }
 {
     Opened::Refused(Refusal {
         number,

@@ -24,7 +24,7 @@ use Rattle.model.specs.Contents.{functionAt, programFunction, textFunction, fun
 use Rattle.model.specs.Patching.{Verdict, refused, accepted}
 use Rattle.model.specs.Deposit.{objectOf, loadDeposit}
 use Rattle.model.specs.PatchList.{patchesOf}
-use Rattle.model.specs.Lent.{summaryOf, Lent, imageOf, fitsIn, filled, zeroRow, filledTo, zeroed, handed, outcomeIn, loadOf}
+use Rattle.model.specs.Lent.{summaryOf, Lent, imageOf, fitsIn, filled, zeroRow, filledTo, zeroed, outcomeIfFits, outcomeIn, loadOf}
 use Rattle.model.specs.declared.Room.{Room}
 use Rattle.model.specs.ReadBack.{readBack}
 use Rattle.guarantees.specs.OptionsAndLists.{map-∈, each-∈, both-true}
@@ -199,10 +199,10 @@ pub given-is : (d entries bytes : List ℕ) (on : Bool) (room : Room) (h : Summa
 unfolding loadOf
 given-is d entries bytes on room h q = go (loadDeposit d (patchesOf entries bytes) on) refl q
   where
-    fit : (c : Catalogue) (b : Bool) → loadDeposit d (patchesOf entries bytes) on ≡ accepted c → fitsIn room (imageOf c) ≡ b → handed room c b .reply ≡ Answer.Accepted h → Given d entries bytes on room h
+    fit : (c : Catalogue) (b : Bool) → loadDeposit d (patchesOf entries bytes) on ≡ accepted c → fitsIn room (imageOf c) ≡ b → outcomeIfFits room c b .reply ≡ Answer.Accepted h → Given d entries bytes on room h
     fit c true e f q =
         let s : h ≡ summaryOf c = cc in
-        record { catalogue = c; answer = e; fits = f; summary = s; lent = ap (λ x. outcomeIn room x .lent) e ∙ ap (λ b. handed room c b .lent) f }
+        record { catalogue = c; answer = e; fits = f; summary = s; lent = ap (λ x. outcomeIn room x .lent) e ∙ ap (λ b. outcomeIfFits room c b .lent) f }
     fit c false e f q = let z : _≡_ {A = ℕ} 0 1 = cc in let no : ⊥ = omega arith in absurd no
 
     go : (a : Verdict) → loadDeposit d (patchesOf entries bytes) on ≡ a → outcomeIn room a .reply ≡ Answer.Accepted h → Given d entries bytes on room h
@@ -280,7 +280,7 @@ pub lent-lengths : (d entries bytes : List ℕ) (on : Bool) (room : Room) → Le
 unfolding loadOf
 lent-lengths d entries bytes on room = go (loadDeposit d (patchesOf entries bytes) on)
   where
-    fit : (c : Catalogue) (b : Bool) → fitsIn room (imageOf c) ≡ b → Lengths room (handed room c b .lent)
+    fit : (c : Catalogue) (b : Bool) → fitsIn room (imageOf c) ≡ b → Lengths room (outcomeIfFits room c b .lent)
     fit c true f = filled-lengths room (imageOf c) f
     fit c false f = zeroed-lengths room
 

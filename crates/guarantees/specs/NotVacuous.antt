@@ -14,7 +14,7 @@ use Rattle.model.specs.Deposit.{weigh, checkOk, checksOk, frameOk, streamIn, st
 use Rattle.model.specs.PatchList.{patchFrom, patchesOf}
 use Rattle.model.specs.ProgramNumbers.{variantOf}
 use Rattle.model.specs.Instruction.{eight, unsigned}
-use Rattle.model.specs.Lent.{placed, sectionRow, programRow, functionRow, mapRow, relocationRow, bytesOf, sectionsAt, programsAt, functionsAt, codeStart, mapsAt, ownStart, summaryOf, imageOf, fitsIn, filledTo, zeroed, turnedDown, tooSmall, Outcome, loadOf}
+use Rattle.model.specs.Lent.{placed, sectionRow, programRow, functionRow, mapRow, relocationRow, bytesOf, sectionsAt, programsAt, functionsAt, codeStart, mapsAt, ownStart, summaryOf, imageOf, fitsIn, filledTo, zeroed, refusedOutcome, tooSmall, Outcome, loadOf}
 use Rattle.model.specs.declared.Room.{Room}
 use Rattle.model.specs.ReadBack.{readBack}
 use Rattle.guarantees.specs.WordsOfDemand3.{FirstHalf, after}
@@ -100,7 +100,7 @@ unfolding runCall deposit
 same-call = refl
 
 -- one byte less of room is 24, and a length that is no multiple of 512 is 1
-no-room : loadOf (deposit 1) [] [] false (room 62) ≡ turnedDown (room 62) tooSmall
+no-room : loadOf (deposit 1) [] [] false (room 62) ≡ refusedOutcome (room 62) tooSmall
 unfolding runCall deposit
 no-room = refl
 

@@ -17,7 +17,7 @@ use Rattle.model.specs.Refusals.{refusalOf}
 use Rattle.model.specs.Patching.{Verdict, refused, accepted, verdict, finish, load}
 use Rattle.model.specs.Deposit.{objectOf, depositRefusal, loadDeposit}
 use Rattle.model.specs.PatchList.{patchFrom, patchesOf}
-use Rattle.model.specs.Lent.{summaryOf, imageOf, fitsIn, filledTo, zeroed, turnedDown, tooSmall, handed, outcomeIn, loadOf}
+use Rattle.model.specs.Lent.{summaryOf, imageOf, fitsIn, filledTo, zeroed, refusedOutcome, tooSmall, outcomeIfFits, outcomeIn, loadOf}
 use Rattle.model.specs.declared.Room.{Room}
 use Rattle.guarantees.specs.RefusalPlaces.{Names, Says, refusal-says, deposit-says}
 
@@ -54,21 +54,21 @@ refused-says d ps on r h = outer (depositRefusal d) (deposit-says d ps) h
 
 module _ (d entries bytes : List ℕ) (on : Bool) (room : Room) where
   -- a refusal of 1 to 23 stays
-  pub refused-is : (r : Refusal) → loadDeposit d (patchesOf entries bytes) on ≡ refused r → loadOf d entries bytes on room ≡ turnedDown room r
+  pub refused-is : (r : Refusal) → loadDeposit d (patchesOf entries bytes) on ≡ refused r → loadOf d entries bytes on room ≡ refusedOutcome room r
   unfolding loadOf
   refused-is r e = ap (outcomeIn room) e
 
   -- 24 where the image does not fit
   pub small-is : (c : Catalogue) → loadDeposit d (patchesOf entries bytes) on ≡ accepted c → fitsIn room (imageOf c) ≡ false
-      → loadOf d entries bytes on room ≡ turnedDown room tooSmall
+      → loadOf d entries bytes on room ≡ refusedOutcome room tooSmall
   unfolding loadOf
-  small-is c e f = ap (outcomeIn room) e ∙ ap (handed room c) f
+  small-is c e f = ap (outcomeIn room) e ∙ ap (outcomeIfFits room c) f
 
   -- and a catalogue where it does
   pub large-is : (c : Catalogue) → loadDeposit d (patchesOf entries bytes) on ≡ accepted c → fitsIn room (imageOf c) ≡ true
       → loadOf d entries bytes on room ≡ record { reply = Answer.Accepted (summaryOf c); lent = filledTo room (imageOf c) }
   unfolding loadOf
-  large-is c e f = ap (outcomeIn room) e ∙ ap (handed room c) f
+  large-is c e f = ap (outcomeIn room) e ∙ ap (outcomeIfFits room c) f
 
   -- the deposit has a catalogue, and it is larger than what was lent
   abbrev pub Larger : Type 0
@@ -77,19 +77,19 @@ module _ (d entries bytes : List ℕ) (on : Bool) (room : Room) where
   -- why a call is refused
   pub record Refused (r : Refusal) : Type 0 where
     pub reason : (loadDeposit d (patchesOf entries bytes) on ≡ refused r) ⊎ ((r ≡ tooSmall) × Larger)
-    pub call : loadOf d entries bytes on room ≡ turnedDown room r
+    pub call : loadOf d entries bytes on room ≡ refusedOutcome room r
 
   why : (r : Refusal) → loadOf d entries bytes on room .reply ≡ Answer.Refused r → Refused r
   unfolding loadOf
   why r q = go (loadDeposit d (patchesOf entries bytes) on) refl q
     where
-      fit : (c : Catalogue) (b : Bool) → loadDeposit d (patchesOf entries bytes) on ≡ accepted c → fitsIn room (imageOf c) ≡ b → handed room c b .reply ≡ Answer.Refused r
+      fit : (c : Catalogue) (b : Bool) → loadDeposit d (patchesOf entries bytes) on ≡ accepted c → fitsIn room (imageOf c) ≡ b → outcomeIfFits room c b .reply ≡ Answer.Refused r
           → Refused r
       fit c true e f q = let z : _≡_ {A = ℕ} 0 1 = cc in let no : ⊥ = omega arith in absurd no
-      fit c false e f q = let k : r ≡ tooSmall = cc in record { reason = inr (k, (c, e, f)); call = small-is c e f ∙ ap (turnedDown room) (sym k) }
+      fit c false e f q = let k : r ≡ tooSmall = cc in record { reason = inr (k, (c, e, f)); call = small-is c e f ∙ ap (refusedOutcome room) (sym k) }
 
       go : (a : Verdict) → loadDeposit d (patchesOf entries bytes) on ≡ a → outcomeIn room a .reply ≡ Answer.Refused r → Refused r
-      go (refused x) e q = let k : x ≡ r = cc in record { reason = inl (e ∙ ap refused k); call = refused-is x e ∙ ap (turnedDown room) k }
+      go (refused x) e q = let k : x ≡ r = cc in record { reason = inl (e ∙ ap refused k); call = refused-is x e ∙ ap (refusedOutcome room) k }
       go (accepted c) e q = fit c (fitsIn room (imageOf c)) e refl q
 
   -- 'zeroes the lent catalogue'

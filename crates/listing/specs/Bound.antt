@@ -15,7 +15,7 @@ use Rattle.model.specs.Contents.{valueSize}
 use Rattle.model.specs.Lent.{programName, functionName, mapName, bytesOf}
 use Rattle.model.specs.Listing.{digits, line, versionText, programLine, functionLine, mapLine, refusalText, catalogueText}
 use Rattle.model.specs.ReadBack.{programRead}
-use Rattle.lines.specs.Variants.{name-short}
+use Rattle.listing_text.specs.Variants.{name-short}
 
 digits-most : (k n : ℕ) → length (digits k n) ≤ k
 unfolding digits

@@ -18,11 +18,11 @@ use Rattle.model.specs.declared.Room.{Room}
 use Rattle.model.specs.Listing.{catalogueText}
 use Rattle.model.specs.ReadBack.{functionRead, readBack}
 use Rattle.lists.specs.Tests.{both-true}
-use Rattle.plan.specs.Placed.{length-joined}
+use Rattle.catalogue_laws.specs.Placed.{length-joined}
 use Rattle.guarantees.specs.LentBack.{Given, given-is, lent-lengths}
-use Rattle.flat_rows.specs.Flat.{flatRows, length-flat}
+use Rattle.rows_numbers.specs.Flat.{flatRows, length-flat}
 use Rattle.listing.specs.Numbers.{Flat}
-use Rattle.lines.specs.Flat.{rowFrom, functionFrom, topText, flatText, RowsFit}
+use Rattle.listing_text.specs.Flat.{rowFrom, functionFrom, topText, flatText, RowsFit}
 
 functions-read : (b : List ℕ) (n : ℕ) (rows : List FunctionRow) (rest : List ℕ) → n ≤ length rows
     → records (functionFrom b) 7 n (flatRows rows ++ rest) ≡ map (functionRead b) (take n rows)

@@ -16,7 +16,7 @@ use Rattle.model.specs.Listing.{answerText, catalogueText, refusalText, tooLong
 use Rattle.model.specs.ReadBack.{readBack}
 use Rattle.guarantees.specs.LentBack.{given-is, lent-read-back}
 use Rattle.listing.specs.Numbers.{Flat}
-use Rattle.lines.specs.Flat.{flatAnswer, AnswerFits}
+use Rattle.listing_text.specs.Flat.{flatAnswer, AnswerFits}
 use Rattle.listing.specs.Bound.{catalogue-most, refusal-most}
 use Rattle.listing.specs.Loaded.{within, rows-fit, flat-is}
 

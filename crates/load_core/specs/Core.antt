@@ -13,8 +13,8 @@ use Rattle.model.specs.Patching.{load}
 use Rattle.model.specs.declared.Room.{Room}
 use Rattle.object_view.specs.declared.Opened.{Opened}
 use Rattle.object_view.specs.declared.View.{View}
-use Rattle.view.specs.Opened.{opened-object}
-use Rattle.view.specs.View.{objectIn}
+use Rattle.object.specs.Opened.{opened-object}
+use Rattle.object.specs.View.{objectIn}
 use Rattle.deposit.specs.Accepted.{accepted, refused-by}
 use Rattle.deposit.specs.Open.{openedOf}
 use Rattle.deposit.specs.Readable.{readable}

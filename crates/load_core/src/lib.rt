@@ -8,7 +8,7 @@ ghost use Rattle.model.specs.Lent.{outcomeIn};
 ghost use Rattle.model.specs.PatchList.{patchesOf};
 ghost use Rattle.model.specs.Patching.{load};
 ghost use Rattle.records.specs.Readable.{Readable};
-ghost use Rattle.view.specs.View.{objectIn};
+ghost use Rattle.object.specs.View.{objectIn};
 ghost use Rattle.load_object.specs.Done.{lentRoom, Open, symbolsOf, verdictIn, CoreDone, FrontDone};
 use load_large::load_4096;
 use load_large::load_65536;

@@ -13,35 +13,35 @@ use Rattle.model.specs.declared.Function.{Function}
 use Rattle.model.specs.declared.Refusal.{Refusal}
 use Rattle.model.specs.Bytes.{each}
 use Rattle.model.specs.Catalogue.{Catalogue}
-use Rattle.model.specs.Lent.{placed, joined, filled, zeroRow, bytesOf, mapName, mapOwn, mapRow, functionName, functionCode, functionRow, imageOf, functionsAt, codeStart, mapsAt, ownStart, Outcome, zeroed, filledTo, turnedDown, lent, outcome, outcomeIn}
+use Rattle.model.specs.Lent.{placed, joined, filled, zeroRow, bytesOf, mapName, mapOwn, mapRow, functionName, functionCode, functionRow, imageOf, functionsAt, codeStart, mapsAt, ownStart, Outcome, zeroed, filledTo, refusedOutcome, lent, outcome, outcomeIn}
 use Rattle.model.specs.Object.{Patch}
 use Rattle.model.specs.Patching.{finish, load}
 use Rattle.model.specs.Refusals.{objectRefusal, patchRefusal}
-use Rattle.view.specs.View.{objectIn}
+use Rattle.object.specs.View.{objectIn}
 use Rattle.object_view.specs.declared.Form.{Form}
 use Rattle.object_view.specs.declared.View.{View}
-use Rattle.catalogue.specs.Numbers.{functionAt, functions-by, sectionNumbers, programNumbers, functionNumbers, mapNumbers}
+use Rattle.catalogue_numbers.specs.Numbers.{functionAt, functions-by, sectionNumbers, programNumbers, functionNumbers, mapNumbers}
 use Rattle.records.specs.Readable.{Readable}
-use Rattle.bytes.specs.Held.{Held, inside}
-use Rattle.bytes.specs.Parts.{catalogue}
-use Rattle.image.specs.Tables.{long-relocations, count-sections, count-programs, count-functions, count-maps, rows-of-maps}
-use Rattle.sections.specs.declared.Counts.{Counts}
-use Rattle.sections.specs.declared.Tables.{Tables}
-use Rattle.tables.specs.Parsed
-use Rattle.tables.specs.Parsed.{tablesOf, countsOf}
-use Rattle.decision.specs.declared.Plan.{Plan}
+use Rattle.bytes_layout.specs.Held.{Held, inside}
+use Rattle.bytes_layout.specs.Parts.{catalogue}
+use Rattle.load_image.specs.Tables.{long-relocations, count-sections, count-programs, count-functions, count-maps, rows-of-maps}
+use Rattle.parse_sections.specs.declared.Counts.{Counts}
+use Rattle.parse_sections.specs.declared.Tables.{Tables}
+use Rattle.parse_tables.specs.Parsed
+use Rattle.parse_tables.specs.Parsed.{tablesOf, countsOf}
+use Rattle.load_decision.specs.declared.Plan.{Plan}
 use Rattle.model.specs.declared.Room.{Room}
-use Rattle.decision.specs.Decided.{Planned}
-use Rattle.decision.specs.Outcomes.{goes}
-use Rattle.decision.specs.Patches.{Ready}
-use Rattle.decision.specs.Room.{spacious}
-use Rattle.lent_tables.specs.Fills.{Fillable, summaryBy, summary-is}
+use Rattle.load_decision.specs.Decided.{Planned}
+use Rattle.load_decision.specs.Outcomes.{goes}
+use Rattle.load_decision.specs.Patches.{Ready}
+use Rattle.load_decision.specs.Room.{spacious}
+use Rattle.load_fill.specs.Fills.{Fillable, summaryBy, summary-is}
 use Rattle.patch_checks.specs.Checks.{mapsOf}
-use Rattle.patch.specs.Ready.{Ready as PatchReady, sited-table, rows-front}
-use Rattle.function_table.specs.declared.Rows.{Rows}
-use Rattle.function_table.specs.Rows.{rowsMade}
-use Rattle.function_table.specs.Placed.{rows-are}
-use Rattle.function_table.specs.Stored.{rows-zero}
+use Rattle.patch_data.specs.Ready.{Ready as PatchReady, sited-table, rows-front}
+use Rattle.rows_functions.specs.declared.Rows.{Rows}
+use Rattle.rows_functions.specs.Rows.{rowsMade}
+use Rattle.rows_functions.specs.Placed.{rows-are}
+use Rattle.rows_functions.specs.Stored.{rows-zero}
 use Rattle.load_object.specs.declared.Loaded.{Loaded}
 use Rattle.load_object.specs.Done.{FrontDone}
 
@@ -117,12 +117,12 @@ outcome-parts o r s p f m l b e₁ e₂ e₃ e₄ e₅ e₆ e₇ =
 -- ---- a refusal
 
 module _ (d t : List ℕ) (room : Room) (s p m l b order : List ℕ) where
-  pub refused-loads : (q : Refusal) (o : Outcome) (r : Loaded) → o ≡ turnedDown room q → r ≡ refusedBy q → s ≡ replicate (room .sections) 0 → p ≡ replicate (room .programs) 0
+  pub refused-loads : (q : Refusal) (o : Outcome) (r : Loaded) → o ≡ refusedOutcome room q → r ≡ refusedBy q → s ≡ replicate (room .sections) 0 → p ≡ replicate (room .programs) 0
       → m ≡ replicate (room .maps) 0 → l ≡ replicate (room .relocations) 0 → b ≡ replicate (room .bytes) 0 → FrontDone d t (room .functions) o r s p m l b order
   unfolding zeroed
   refused-loads q o r e f k₁ k₂ k₃ k₄ k₅ rest =
       rw (e, f) (
-        outcome-parts (turnedDown room q) (Answer.Refused q) s p _ m l b refl k₁ k₂ (rows-zero d t (order ++ rest) noRows (room .functions) refl) k₃ k₄ k₅,
+        outcome-parts (refusedOutcome room q) (Answer.Refused q) s p _ m l b refl k₁ k₂ (rows-zero d t (order ++ rest) noRows (room .functions) refl) k₃ k₄ k₅,
         λ l. absurd (omega (arith, l)),
       )
 

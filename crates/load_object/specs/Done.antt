@@ -10,8 +10,8 @@ use Rattle.model.specs.PatchList.{patchesOf}
 use Rattle.model.specs.Patching.{Verdict, refused, load}
 use Rattle.object_view.specs.declared.Opened.{Opened}
 use Rattle.records.specs.Readable.{Readable}
-use Rattle.view.specs.View.{objectIn}
-use Rattle.function_table.specs.Rows.{ReadableRows, rowsMade}
+use Rattle.object.specs.View.{objectIn}
+use Rattle.rows_functions.specs.Rows.{ReadableRows, rowsMade}
 use Rattle.load_object.specs.declared.Loaded.{Loaded}
 
 -- the lent lengths, in the order of the tables

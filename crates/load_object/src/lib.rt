@@ -8,35 +8,35 @@ ghost use Rattle.model.specs.PatchList.{patchesOf};
 ghost use Rattle.model.specs.Patching.{finish, load};
 ghost use Rattle.model.specs.Refusals.{objectRefusal, patchRefusal};
 ghost use Rattle.records.specs.Readable.{Readable};
-ghost use Rattle.view.specs.View.{objectIn};
-ghost use Rattle.bytes.specs.Held.{Held};
-ghost use Rattle.bytes.specs.Parts.{catalogue};
-ghost use Rattle.decision.specs.Patches.{Ready};
-ghost use Rattle.lent_tables.specs.Fills.{Fillable};
+ghost use Rattle.object.specs.View.{objectIn};
+ghost use Rattle.bytes_layout.specs.Held.{Held};
+ghost use Rattle.bytes_layout.specs.Parts.{catalogue};
+ghost use Rattle.load_decision.specs.Patches.{Ready};
+ghost use Rattle.load_fill.specs.Fills.{Fillable};
 ghost use Rattle.load_object.specs.Core.{noView, refusedBy, acceptedBy, Scratch};
 ghost use Rattle.load_object.specs.Done.{lentRoom, FrontDone};
-use decision::Decision;
-use decision::Plan;
-use decision::decide_patches;
-use decision::decide_room;
-use finished_bytes::finish_bytes;
-use function_table::Rows;
-use lent_tables::clear;
-use lent_tables::fill;
-use lent_tables::summary;
+use load_decision::Decision;
+use load_decision::Plan;
+use load_decision::decide_patches;
+use load_decision::decide_room;
+use load_fill::clear;
+use load_fill::fill;
+use load_fill::summary;
+use load_finish::finish_bytes;
 use model::Answer;
 use model::Endianness;
 use model::Refusal;
 use model::Room;
+use object::Checked;
 use object_view::Form;
 use object_view::Places;
 use object_view::Strings;
 use object_view::View;
-use sections::Counts;
-use sections::Tables;
+use parse_sections::Counts;
+use parse_sections::Tables;
+use parse_tables::parse;
+use rows_functions::Rows;
 use stream::size;
-use tables::parse;
-use view::Checked;
 
 pub struct Loaded {
     pub answer: Answer,
@@ -126,7 +126,7 @@ pub fn refuse(
 }
 
 // The record numbers of sections, programs, functions and maps are s, p, f and m.
-fn deliver(
+fn fill_and_finish(
     d: &[u8],
     t: &[u32],
     v: View,
@@ -254,7 +254,7 @@ fn load_tables(
     match decision {
         Decision::Refused(r) => refuse(r, sections, programs, maps, relocations, bytes),
         Decision::Accepted(plan) => {
-            deliver(
+            fill_and_finish(
                 d,
                 t,
                 v,

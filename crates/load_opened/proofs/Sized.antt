@@ -41,8 +41,8 @@ use Rattle.model.specs.declared.Answer.{Answer}
 use Rattle.model.specs.declared.Function.{Function}
 use Rattle.model.specs.Lent.{lent, Outcome, outcome, outcomeIn}
 use Rattle.object_view.specs.declared.Opened.{Opened}
-use Rattle.function_table.specs.declared.Rows.{Rows}
-use Rattle.function_table.specs.Rows.{ReadableRows, rowsMade}
+use Rattle.rows_functions.specs.declared.Rows.{Rows}
+use Rattle.rows_functions.specs.Rows.{ReadableRows, rowsMade}
 use Rattle.load_object.specs.declared.Loaded.{Loaded}
 use Rattle.load_object.specs.Done.{lentRoom, Open, symbolsOf, verdictIn, CoreDone}
 use Rattle.load_opened.specs.Loads.{Loads}
@@ -57,14 +57,14 @@ use Rattle.model.proofs.Answer as F
 use Rattle.model.proofs.Answer.Laws as F′
 use Rattle.object_view.proofs.Opened as O
 use Rattle.object_view.proofs.Opened.Laws as O′
-use Rattle.function_table.proofs.Rows as R
-use Rattle.function_table.proofs.Rows.Laws as R′
+use Rattle.rows_functions.proofs.Rows as R
+use Rattle.rows_functions.proofs.Rows.Laws as R′
 use Rattle.load_object.proofs.Loaded as L
 use Rattle.load_object.proofs.Loaded.Laws as L′
 use Rattle.load_core.proofs.load_core as core
 use Rattle.load_core.proofs.load_core.Symbol.{name as #load-core}
-use Rattle.function_table.proofs.fill as fill
-use Rattle.function_table.proofs.fill.Symbol.{name as #fill}
+use Rattle.rows_functions.proofs.fill as fill
+use Rattle.rows_functions.proofs.fill.Symbol.{name as #fill}
 use Rattle.load_opened.proofs.load_64 as load′
 
 abbrev locals : ℕ → List Local

@@ -5,11 +5,11 @@ ghost use Prim.Native.Nat.{_≤_};
 ghost use lib.Dec.{leb};
 ghost use Rattle.model.specs.Lent.{lent, roomIn, outcome, outcomeIn};
 ghost use Rattle.load_object.specs.Done.{Open, symbolsOf, verdictIn};
-use function_table::fill;
 use load_core::load_core;
 use model::Answer;
 use model::Function;
 use object_view::Opened;
+use rows_functions::fill;
 
 // For at most 64 symbols.
 fn load_64(

@@ -6,7 +6,7 @@ ghost use Rattle.model.specs.Lent.{outcomeIn};
 ghost use Rattle.model.specs.PatchList.{patchesOf};
 ghost use Rattle.model.specs.Patching.{load};
 ghost use Rattle.records.specs.Readable.{Readable};
-ghost use Rattle.view.specs.View.{objectIn};
+ghost use Rattle.object.specs.View.{objectIn};
 ghost use Rattle.load_object.specs.Done.{lentRoom, FrontDone};
 use load_object::Loaded;
 use load_object::load_object;

@@ -22,17 +22,17 @@ use Rattle.model.specs.Object.{Object, Patch}
 use Rattle.model.specs.PatchList.{patchesOf}
 use Rattle.model.specs.Refusals.{ofEntry, passes, bearers, placeRefusal, bearerRefusal, entryRefusal, patchRefusal}
 use Rattle.model.specs.Symbols.{top}
-use Rattle.plan.specs.SectionsPrograms.{All}
-use Rattle.view.specs.declared.Checked.{Checked}
-use Rattle.view.specs.Checked.{checkedOf}
-use Rattle.view.specs.View.{symbolIn, symbolFrom, objectIn}
-use Rattle.catalogue.specs.Numbers.{mapAt}
-use Rattle.catalogue.specs.Fits.{MapFits}
+use Rattle.catalogue_laws.specs.SectionsPrograms.{All}
+use Rattle.object.specs.declared.Checked.{Checked}
+use Rattle.object.specs.Checked.{checkedOf}
+use Rattle.object.specs.View.{symbolIn, symbolFrom, objectIn}
+use Rattle.catalogue_numbers.specs.Numbers.{mapAt}
+use Rattle.catalogue_numbers.specs.Fits.{MapFits}
 use Rattle.records.specs.Readable.{Readable}
-use Rattle.bearers.specs.declared.Bearer.{Bearer}
-use Rattle.bearers.specs.Bearers.{bearerOf, bearersIn, bearers-by}
-use Rattle.map_places.specs.Places.{mapPlaces}
-use Rattle.map_places.specs.Found.{placeOf, Mapped, no-map, the-map, places-room}
+use Rattle.patch_symbols.specs.declared.Bearer.{Bearer}
+use Rattle.patch_symbols.specs.Bearers.{bearerOf, bearersIn, bearers-by}
+use Rattle.patch_maps.specs.Places.{mapPlaces}
+use Rattle.patch_maps.specs.Found.{placeOf, Mapped, no-map, the-map, places-room}
 use Rattle.patch_checks.specs.Entries.{countOf, patchAt, patches-are}
 
 abbrev pub past : ℕ → ℕ → ℕ → Bool
@@ -104,7 +104,7 @@ module _ (d t : List ℕ) (v : View) where
   module _ (ms : List Map) (e : ℕ) where
     -- what refuses an entry with data of some length and a mark, by the symbols that bear its name
     abbrev pub faultOf : ℕ → ℕ → Bearer → Option Refusal
-    faultOf length mark Bearer.Nobody = ofEntry 20 e (eqb mark 1)
+    faultOf length mark Bearer.Nothing = ofEntry 20 e (eqb mark 1)
     faultOf length mark (Bearer.One j) = orElse (ofEntry 21 e (not (eqb length (symbolIn d t v j .size)))) (placeRefusal ms e (symbolIn d t v j))
     faultOf length mark Bearer.Several = ofEntry 19 e true
 

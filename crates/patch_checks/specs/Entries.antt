@@ -14,7 +14,7 @@ use Rattle.lists.specs.Part.{length-part}
 use Rattle.lists.specs.Tab.{tab, is-tab}
 use Rattle.lists.specs.Tests.{both-true}
 use Rattle.object_view.specs.declared.View.{View}
-use Rattle.bearers.specs.Search.{Searchable, byName}
+use Rattle.patch_symbols.specs.Search.{Searchable, byName}
 use Rattle.model.specs.declared.Range.{Range}
 use Rattle.model.specs.Bytes.{part, records, inside}
 use Rattle.model.specs.Object.{Patch}

@@ -7,23 +7,23 @@ ghost use lib.ListN.{getD};
 ghost use Rattle.model.specs.Bytes.{inside, orElse};
 ghost use Rattle.model.specs.Refusals.{noSection, noSymbol, ofEntry, placeRefusal, entryRefusal, patchRefusal};
 ghost use Rattle.model.specs.PatchList.{patchesOf};
-ghost use Rattle.view.specs.Checked.{checkedOf};
-ghost use Rattle.view.specs.View.{symbolIn, symbolFrom, objectIn};
-ghost use Rattle.bearers.specs.Search.{Searchable};
+ghost use Rattle.object.specs.Checked.{checkedOf};
+ghost use Rattle.object.specs.View.{symbolIn, symbolFrom, objectIn};
+ghost use Rattle.patch_symbols.specs.Search.{Searchable};
 ghost use Rattle.patch_checks.specs.Entries.{Named, countOf, entryAt, longer as longerOf, longest, patchBy};
 ghost use Rattle.patch_checks.specs.Checks.{past, mapsOf, Sited};
-use bearers::Bearer;
-use bearers::bearer_of;
-use map_places::place_of;
+use bytes_maps::own_length;
 use model::Range;
 use model::Refusal;
 use model::SectionIndex;
 use model::SymbolIndex;
 use model::SymbolRecord;
+use object::Checked;
 use object_view::View;
-use own::own_length;
+use patch_maps::place_of;
+use patch_symbols::Bearer;
+use patch_symbols::bearer_of;
 use records::symbol;
-use view::Checked;
 
 // Five numbers of the list: whether all are lent, the name, the data and the must-exist mark.
 pub struct Entry {
@@ -218,7 +218,7 @@ fn entry_refusal(
     let at = x.name.at as usize;
     let end = at + x.name.length as usize;
     match bearer_of(d, t, v, order, &patches[at..end]) {
-        Bearer::Nobody => {
+        Bearer::Nothing => {
             if x.mark == 1 {
                 of_entry(20, e)
             } else {

@@ -1,12 +1,12 @@
-// Each line of the input is a case, in the form of crates/case_lines. What it lends is filled with a pattern before the call.
-use case_lines::Case;
+// Each line of the input is a case, in the form of crates/replay_lines. What it lends is filled with a pattern before the call.
+use replay_lines::Case;
 
 mod room;
 
-use case_lines::find;
-use case_lines::least;
-use case_lines::read_case;
-use case_lines::tell;
+use replay_lines::find;
+use replay_lines::least;
+use replay_lines::read_case;
+use replay_lines::tell;
 
 fn replay(
     name: &[u8],
@@ -21,7 +21,7 @@ fn replay(
     relocations: &mut [u64],
     bytes: &mut [u8],
 ) {
-    let answer = flat::load_flat(
+    let answer = load_numbers::load_flat(
         d,
         entries,
         patches,

@@ -37,18 +37,18 @@ use denote.Triple.Walked.{says, Stays, stay-dropped, walkOf, goes-dropped, ends-
 use denote.Exit.{yes}
 use Rattle.model.specs.declared.Function.{Function}
 use Rattle.model.specs.declared.SectionIndex.{SectionIndex}
-use Rattle.function_table.specs.declared.Found.{Found}
-use Rattle.function_table.specs.Search.{foundIn}
+use Rattle.rows_functions.specs.declared.Found.{Found}
+use Rattle.rows_functions.specs.Search.{foundIn}
 use Rattle.buncoyew.specs.Called.{rowNumber}
 use Rattle.model.proofs.Function as T
 use Rattle.model.proofs.SectionIndex as I
 use Rattle.model.proofs.SectionIndex.Laws as I′
-use Rattle.function_table.proofs.Found as F
-use Rattle.function_table.proofs.Found.Laws as F′
-use Rattle.function_table.proofs.find as find
-use Rattle.function_table.proofs.find.Symbol as find-def
-use Rattle.function_table.proofs.find.Symbol.{name as #find}
-use Rattle.function_table.proofs.find.Met as find-thm
+use Rattle.rows_functions.proofs.Found as F
+use Rattle.rows_functions.proofs.Found.Laws as F′
+use Rattle.rows_functions.proofs.find as find
+use Rattle.rows_functions.proofs.find.Symbol as find-def
+use Rattle.rows_functions.proofs.find.Symbol.{name as #find}
+use Rattle.rows_functions.proofs.find.Met as find-thm
 use Rattle.buncoyew.proofs.row_number as row
 use Rattle.buncoyew.proofs.row_number.Symbol as row-def
 use Rattle.buncoyew.proofs.row_number.Symbol.{name as #row-number}
@@ -169,5 +169,5 @@ buncoyew-find-spec 𝓤 H 𝓜 𝓖 𝓡 =
     entered 𝓤 H (tripleOf 𝓤 H (𝓖 .A) f.signature (f.spec 𝓤 H (𝓖 .A) (𝓜 .mem) (𝓡 .run)))
     (tables 𝓤 H 𝓜 𝓡 code.env .C) (tables 𝓤 H 𝓜 𝓡 code.env .Λ) #buncoyew-find code.function (code.unfolded 𝓤 H 𝓜 𝓡)
     (find-meets 𝓤 H (𝓖 .A) (givenOf 𝓤 H 𝓜 𝓖) (𝓜 .mem) (𝓡 .run) (tablesOf 𝓤 H 𝓜 (tables 𝓤 H 𝓜 𝓡 code.env))
-    (cited 𝓤 H (Find 𝓤 H (𝓖 .A) (𝓜 .mem) (𝓡 .run)) 𝓜 𝓡 code.env #find find-def.routine code.calls-function-table·find (find-thm.met 𝓤 H 𝓜 𝓖 𝓡))
+    (cited 𝓤 H (Find 𝓤 H (𝓖 .A) (𝓜 .mem) (𝓡 .run)) 𝓜 𝓡 code.env #find find-def.routine code.calls-rows-functions·find (find-thm.met 𝓤 H 𝓜 𝓖 𝓡))
     (cited 𝓤 H (RowNumber 𝓤 H (𝓖 .A) (𝓜 .mem) (𝓡 .run)) 𝓜 𝓡 code.env #row-number row-def.routine code.calls-buncoyew·row-number (row-thm.met 𝓤 H 𝓜 𝓖 𝓡)))

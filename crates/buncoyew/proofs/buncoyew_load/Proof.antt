@@ -43,7 +43,7 @@ use denote.Exit.{yes}
 use Rattle.model.specs.declared.Answer.{Answer}
 use Rattle.model.specs.declared.Function.{Function}
 use Rattle.model.specs.Lent.{lent, roomIn, Outcome, loadOf}
-use Rattle.load.specs.Loads.{Loads}
+use Rattle.load_opened.specs.Loads.{Loads}
 use Rattle.buncoyew.specs.declared.LoadAnswer.{LoadAnswer}
 use Rattle.buncoyew.specs.Called.{answerOf, call, callOf}
 use Rattle.model.proofs.Function as T

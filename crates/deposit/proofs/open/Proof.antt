@@ -5,7 +5,7 @@ use borrow.Author.Tests.{not-true, not-false}
 use native.Mathlib.Omega.{arith}
 use Rattle.records.specs.Records.{headAt}
 use Rattle.records.specs.View.{depositView}
-use Rattle.rules.specs.declared.Checked.{Checked}
+use Rattle.deposit_rules.specs.declared.Checked.{Checked}
 use Rattle.object_view.specs.declared.Opened.{Opened}
 use Rattle.deposit.specs.Open.{checkedStream, framed, fine-end, opened-1, opened-checked}
 use borrow.Author.Needs.{needs}

@@ -12,9 +12,9 @@ use Rattle.model.specs.Lent.{Outcome, loadOf}
 use Rattle.model.specs.declared.Room.{Room}
 use Rattle.model.specs.Listing.{refusalText, listingOf}
 use Rattle.encoding.specs.Code.{all-bytes}
-use Rattle.flat.specs.Loads.{flatRoom}
+use Rattle.load_numbers.specs.Loads.{flatRoom}
 use Rattle.listing.specs.Numbers.{flat-answer, flat-tables}
-use Rattle.lines.specs.Laid.{same-text, whole-text}
+use Rattle.listing_text.specs.Laid.{same-text, whole-text}
 use Rattle.listing.specs.Bound.{refusal-most}
 use Rattle.listing.specs.Text.{answer-fits, answer-text, text-most, long-text, short-text}
 use Rattle.listing.specs.Written.{counted}

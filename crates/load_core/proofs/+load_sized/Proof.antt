@@ -1,7 +1,7 @@
 -- `load_core::load_sized` meets its contract.
 use borrow.Author.Needs.{needs}
 use Rattle.load_core.specs.Core.{few-both}
-use Prim.Native.Nat.{ℕ}
+use Prim.Native.Nat.{ℕ, _<_}
 use borrow.Fn.Kinds.{In}
 use borrow.Fn.PlainCycle.{Measures, is, falls, and}
 use Rattle.load_core.proofs.load_sized.Reads as load-sized

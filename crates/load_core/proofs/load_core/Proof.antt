@@ -5,7 +5,7 @@ use native.Mathlib.Omega.{arith}
 use denote.Ref.{now}
 use lib.ListN.{length}
 use Rattle.model.specs.Lent.{outcomeIn}
-use Rattle.tables.specs.Parsed.{lent-length}
+use Rattle.parse_tables.specs.Parsed.{lent-length}
 use Rattle.load_object.specs.Core.{refused-loads}
 use Rattle.load_object.specs.Done.{lentRoom, verdictIn}
 use Rattle.load_core.specs.Core.{open-view, opened-loads}

@@ -4,8 +4,8 @@ use native.Mathlib.Omega.{arith}
 use denote.Ref.{now}
 use lib.ListN.{length}
 use Rattle.model.specs.PatchList.{patchesOf}
-use Rattle.view.specs.View.{objectIn}
-use Rattle.decision.specs.Outcomes.{back-object}
+use Rattle.object.specs.View.{objectIn}
+use Rattle.load_decision.specs.Outcomes.{back-object}
 use Rattle.load_object.specs.Core.{refused-loads, numbers-refused, numbers-held}
 use Rattle.load_object.specs.Done.{lentRoom}
 use borrow.Author.Needs.{needs}

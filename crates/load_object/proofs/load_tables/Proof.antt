@@ -1,4 +1,4 @@
--- `load_object::load_tables` meets its contract: what the patches or the room refuse is cleared, all else is delivered.
+-- `load_object::load_tables` meets its contract: what the patches or the room refuse is cleared, all else is fill-and-finished.
 use mathlib.Core.Path.{_≡_, refl, sym, ap, _∙_}
 use mathlib.Core.List.{_++_}
 use mathlib.Core.Option.{none}
@@ -7,15 +7,15 @@ use native.Mathlib.Omega.{arith}
 use denote.Ref.{now}
 use lib.ListN.{length, drop}
 use lib.Seq.{length-front}
-use Rattle.model.specs.Lent.{turnedDown}
+use Rattle.model.specs.Lent.{refusedOutcome}
 use Rattle.model.specs.PatchList.{patchesOf}
 use Rattle.model.specs.Refusals.{patchRefusal}
-use Rattle.view.specs.View.{objectIn}
-use Rattle.text.specs.Parsed.{checked-fine, checked-refused}
-use Rattle.tables.specs.Parsed.{lent-length}
-use Rattle.bytes.specs.Parts.{catalogue}
-use Rattle.decision.specs.Outcomes.{back-patches, back-small}
-use Rattle.decision.specs.Patches.{ready-part}
+use Rattle.object.specs.View.{objectIn}
+use Rattle.parse_text.specs.Parsed.{checked-fine, checked-refused}
+use Rattle.parse_tables.specs.Parsed.{lent-length}
+use Rattle.bytes_layout.specs.Parts.{catalogue}
+use Rattle.load_decision.specs.Outcomes.{back-patches, back-small}
+use Rattle.load_decision.specs.Patches.{ready-part}
 use Rattle.load_object.specs.Core.{refused-loads, accepted-loads, fillable}
 use Rattle.load_object.specs.Done.{lentRoom}
 use borrow.Author.Needs.{needs}
@@ -117,17 +117,17 @@ refuse-requires-2 c κs = search needs
 enum-known-decision-2 : tie.Need-enum-known-decision-2
 enum-known-decision-2 c = search needs
 
-sub-deliver : tie.Need-sub-deliver
-sub-deliver c = search needs
+sub-fill-and-finish : tie.Need-sub-fill-and-finish
+sub-fill-and-finish c = search needs
 
-part-deliver-start : tie.Need-part-deliver-start
-part-deliver-start c = search needs
+part-fill-and-finish-start : tie.Need-part-fill-and-finish-start
+part-fill-and-finish-start c = search needs
 
-part-deliver-end : tie.Need-part-deliver-end
-part-deliver-end c = omega (arith, first-long (c .before .before .before .before .before .before .before .before .before .before), c .before .before .before .before .before .before .before .before .before .before .before .before .before .before .before .before .before .before .before .before .before .before .before .before .before .before .before .before .before .before .before .before .before .before .before .before .before .before .before .pre .3, c .before .before .before .before .before .before .before .before .before .before .before .before .before .size .ensures .0)
+part-fill-and-finish-end : tie.Need-part-fill-and-finish-end
+part-fill-and-finish-end c = omega (arith, first-long (c .before .before .before .before .before .before .before .before .before .before), c .before .before .before .before .before .before .before .before .before .before .before .before .before .before .before .before .before .before .before .before .before .before .before .before .before .before .before .before .before .before .before .before .before .before .before .before .before .before .before .pre .3, c .before .before .before .before .before .before .before .before .before .before .before .before .before .size .ensures .0)
 
-deliver-requires : tie.Need-deliver-requires
-deliver-requires c κs =
+fill-and-finish-requires : tie.Need-fill-and-finish-requires
+fill-and-finish-requires c κs =
     let z = c .before .before .before .before .before .before .before .before .before .before .before .before .before .before .before .before .before .before .before .before .before .before .before .before .before .before .before .before .before .before .before .before .before .before .before .before .before .before .before .before .before .before .before .before .before .before in
     let a = z .args in
     let d = now (a .d) in
@@ -174,7 +174,7 @@ returns-2 c =
     let k = c .before .before .before .before .before .before .before .before .before .before .refuse2 .ensures in
     let w = rw (q .1) at (c .before .before .before .before .before .before .before .before .before .before .before .before .before .before .before .before .before .before .before .before .before .before .before .before .before .before .before .before .before .before .before .before .before .before .before .decide-room .ensures .0) in
     refused-loads (now (a .d)) (now (a .t)) room _ _ _ _ _ (now (a .f)) (q .0 .0) _ _
-    (back-small room o ps (z .pre .1) (patches-fine (c .before .before .before .before .before .before .before .before .before .before .before .before .before .before .before .before .before .before .before)) (w .1) (a .rewrite) ∙ ap (turnedDown room) (sym (w .0)))
+    (back-small room o ps (z .pre .1) (patches-fine (c .before .before .before .before .before .before .before .before .before .before .before .before .before .before .before .before .before .before .before)) (w .1) (a .rewrite) ∙ ap (refusedOutcome room) (sym (w .0)))
     (k .0) (k .1) (k .2) (k .3) (rw (c .before .before .before .before .before .before .before .before .before .before .before .before .before .before .before .before .before .before .before .before .before .before .before .before .before .before .before .before .before .before .before .before .before .before .before .decide-room .kept .1 .1 .1 .1 .1 .1 .1 .1 .1 .1 .1 .0) at (k .4)) (k .5)
 
 same-length-15 : tie.Need-same-length-15
@@ -187,7 +187,7 @@ same-length-17 : tie.Need-same-length-17
 same-length-17 c = search needs
 
 same-length-18 : tie.Need-same-length-18
-same-length-18 c = c .before .before .before .before .before .before .before .before .before .before .deliver .kept .1 .1 .1 .1 .1 .1 .1 .1 .1 .1 .1 .1 .1 .1 .1 .1 .0 ∙ c .before .before .before .before .before .before .before .before .before .before .before .before .before .before .before .before .before .before .before .before .before .before .before .before .before .before .before .before .before .before .before .before .before .before .before .before .before .before .decide-room .kept .1 .1 .1 .1 .1 .1 .1 .1 .1 .1 .1 .0
+same-length-18 c = c .before .before .before .before .before .before .before .before .before .before .fill-and-finish .kept .1 .1 .1 .1 .1 .1 .1 .1 .1 .1 .1 .1 .1 .1 .1 .1 .0 ∙ c .before .before .before .before .before .before .before .before .before .before .before .before .before .before .before .before .before .before .before .before .before .before .before .before .before .before .before .before .before .before .before .before .before .before .before .before .before .before .decide-room .kept .1 .1 .1 .1 .1 .1 .1 .1 .1 .1 .1 .0
 
 same-length-19 : tie.Need-same-length-19
 same-length-19 c = search needs
@@ -205,7 +205,7 @@ returns-3 c =
     let room = lentRoom (length (now (a .sections))) (length (now (a .programs))) (a .rows) (length (now (a .maps))) (length (now (a .relocations))) (length (now (a .bytes))) in
     let q = c .before .before .before .before .before .before .before .before .before .before .before .before .before .before .before .before .before .before .before .before .decision2 .given in
     let g = rw (q .1) at (c .before .before .before .before .before .before .before .before .before .before .before .before .before .before .before .before .before .before .before .before .before .before .before .before .before .before .before .before .before .before .before .before .before .before .before .before .before .before .decide-room .ensures .0) in
-    let k = c .before .before .before .before .before .before .before .before .before .before .deliver .ensures in
+    let k = c .before .before .before .before .before .before .before .before .before .before .fill-and-finish .ensures in
     accepted-loads (now (a .d)) (now (a .t)) (a .v) room (q .0 .0) (now (a .s)) (now (a .p)) (now (a .f)) (now (a .m)) (z .pre .0) (g .0) (patchesOf (now (a .entries)) (now (a .patches))) (patches-fine (c .before .before .before .before .before .before .before .before .before .before .before .before .before .before .before .before .before .before .before .before .before .before))
     (a .rewrite) _ _ _ _ _ _ (k .0) (k .1) (k .2) (k .3) (rw (c .before .before .before .before .before .before .before .before .before .before .before .before .before .before .before .before .before .before .before .before .before .before .before .before .before .before .before .before .before .before .before .before .before .before .before .before .before .before .decide-room .kept .1 .1 .1 .1 .1 .1 .1 .1 .1 .1 .1 .0) at (k .4)) (k .5)
 
@@ -233,10 +233,10 @@ load-tables-spec =
     enum-known-decision
     refuse-requires-2
     enum-known-decision-2
-    sub-deliver
-    part-deliver-start
-    part-deliver-end
-    deliver-requires
+    sub-fill-and-finish
+    part-fill-and-finish-start
+    part-fill-and-finish-end
+    fill-and-finish-requires
     same-length-8
     same-length-9
     same-length-10

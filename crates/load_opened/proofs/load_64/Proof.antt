@@ -12,9 +12,9 @@ use Rattle.load_opened.proofs.Sized.{Core, Fill, sized}
 use Rattle.load_core.proofs.load_core.Symbol as core-def
 use Rattle.load_core.proofs.load_core.Symbol.{name as #load-core}
 use Rattle.load_core.proofs.load_core.Met as core-thm
-use Rattle.function_table.proofs.fill.Symbol as fill-def
-use Rattle.function_table.proofs.fill.Symbol.{name as #fill}
-use Rattle.function_table.proofs.fill.Met as fill-thm
+use Rattle.rows_functions.proofs.fill.Symbol as fill-def
+use Rattle.rows_functions.proofs.fill.Symbol.{name as #fill}
+use Rattle.rows_functions.proofs.fill.Met as fill-thm
 use Rattle.load_opened.proofs.load_64.Key.{name as #load-64}
 use Rattle.load_opened.proofs.load_64 as load′
 use Rattle.load_opened.proofs.load_64.Statement as stated
@@ -30,4 +30,4 @@ load-64-spec 𝓤 H 𝓜 𝓖 𝓡 =
     (tables 𝓤 H 𝓜 𝓡 code.env .C) (tables 𝓤 H 𝓜 𝓡 code.env .Λ) #load-64 code.function (code.unfolded 𝓤 H 𝓜 𝓡)
     (sized 𝓤 H (𝓖 .A) (givenOf 𝓤 H 𝓜 𝓖) (𝓜 .mem) (𝓡 .run) 64 room (int w64 64) (const-int 𝓤 H 64 tt) (AtMost 64) (λ d t o asked. asked) (tablesOf 𝓤 H 𝓜 (tables 𝓤 H 𝓜 𝓡 code.env))
     (cited 𝓤 H (Core 𝓤 H (𝓖 .A) (𝓜 .mem) (𝓡 .run)) 𝓜 𝓡 code.env #load-core core-def.routine code.calls-load-core·load-core (core-thm.met 𝓤 H 𝓜 𝓖 𝓡))
-    (cited 𝓤 H (Fill 𝓤 H (𝓖 .A) (𝓜 .mem) (𝓡 .run)) 𝓜 𝓡 code.env #fill fill-def.routine code.calls-function-table·fill (fill-thm.met 𝓤 H 𝓜 𝓖 𝓡)))
+    (cited 𝓤 H (Fill 𝓤 H (𝓖 .A) (𝓜 .mem) (𝓡 .run)) 𝓜 𝓡 code.env #fill fill-def.routine code.calls-rows-functions·fill (fill-thm.met 𝓤 H 𝓜 𝓖 𝓡)))

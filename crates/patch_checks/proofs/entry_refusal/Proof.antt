@@ -10,8 +10,8 @@ use lib.ListN.{length}
 use Rattle.lists.specs.Part.{length-part}
 use Rattle.model.specs.Bytes.{part}
 use Rattle.model.specs.Refusals.{entryRefusal}
-use Rattle.view.specs.Checked.{checkedOf}
-use Rattle.view.specs.View.{objectIn}
+use Rattle.object.specs.Checked.{checkedOf}
+use Rattle.object.specs.View.{objectIn}
 use Rattle.patch_checks.specs.Entries.{patchBy, lent-ranges, bytes-length}
 use Rattle.patch_checks.specs.Checks.{mapsOf, faultOf, not-inside, other-mark, by-bearer}
 use borrow.Author.Needs.{needs}

@@ -4,8 +4,8 @@ use mathlib.Core.Path.{_≡_, refl, sym, ap, _∙_}
 use Prim.Native.Nat.{_+_, _-_, _^_, _<_, _≤_}
 use native.Mathlib.Omega.{arith}
 use Rattle.model.specs.Refusals.{entryRefusal}
-use Rattle.view.specs.Checked.{checkedOf}
-use Rattle.view.specs.View.{objectIn}
+use Rattle.object.specs.Checked.{checkedOf}
+use Rattle.object.specs.View.{objectIn}
 use Rattle.patch_checks.specs.declared.Entry.{Entry}
 use Rattle.patch_checks.specs.Entries.{patchBy, patchAt}
 use Rattle.patch_checks.specs.Checks.{mapsOf, restAt, rest-all, rest-refused, rest-next, rest-end}

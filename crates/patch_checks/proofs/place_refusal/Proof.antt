@@ -4,8 +4,8 @@ use mathlib.Core.Path.{_≡_, sym, ap, _∙_}
 use Prim.Native.Nat.{_-_, _<_}
 use native.Mathlib.Omega.{arith}
 use Rattle.model.specs.Refusals.{ofEntry, placeRefusal}
-use Rattle.view.specs.Checked.{checkedOf}
-use Rattle.view.specs.View.{symbolFrom}
+use Rattle.object.specs.Checked.{checkedOf}
+use Rattle.object.specs.View.{symbolFrom}
 use Rattle.patch_checks.specs.Checks.{mapsOf, place-room, refused-22, place-below, by-own}
 use borrow.Author.Needs.{needs}
 use Rattle.patch_checks.proofs.place_refusal.Statement.{statement}

@@ -4,7 +4,7 @@ use mathlib.Core.Path.{_≡_}
 use mathlib.Core.Bool.{true, false}
 use borrow.Author.Tests.{eq-eqb, ne-eqb}
 use lib.Dec.{eqb}
-use Rattle.view.specs.View.{symbolFrom, symbolIn}
+use Rattle.object.specs.View.{symbolFrom, symbolIn}
 use borrow.Author.Needs.{needs}
 use Rattle.patch_checks.proofs.symbol_refusal.Statement.{statement}
 use Rattle.patch_checks.proofs.symbol_refusal.Tie as tie

@@ -1,0 +1,3 @@
+-- What the contracts of `bytes_code` cite, and the code after rewriting.
+pub mod Code
+pub mod Rewritten

@@ -1,0 +1,2 @@
+-- What the contracts of `bytes_maps` cite.
+pub mod Own

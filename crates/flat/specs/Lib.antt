@@ -1,2 +1,0 @@
--- What the contracts of `flat` cite.
-pub mod Loads

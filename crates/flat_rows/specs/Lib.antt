@@ -1,2 +1,0 @@
--- What the contracts of `flat_rows` cite.
-pub mod Flat

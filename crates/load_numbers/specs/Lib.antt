@@ -1,0 +1,2 @@
+-- What the contracts of `load_numbers` cite.
+pub mod Loads

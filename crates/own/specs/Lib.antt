@@ -1,2 +1,0 @@
--- What the contracts of `own` cite.
-pub mod Own

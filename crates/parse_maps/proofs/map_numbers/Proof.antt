@@ -1,0 +1,97 @@
+-- `parse_maps::map_numbers` meets its contract. The loop's invariant: behind the first w lie the numbers passed, and the rest is as it was.
+use mathlib.Core.Path.{_≡_, refl}
+use Prim.Native.Nat.{_+_, _-_, _<_, _≤_}
+use denote.Ref.{now}
+use native.Mathlib.Omega.{arith}
+use lib.ListN.{length, getD, length-set}
+use lib.Seq.{slice}
+use Rattle.catalogue_laws.specs.Groups.{map-start, map-in, Laid, laid-none, laid-next}
+use Rattle.parse_maps.specs.Fault.{mapNumbers}
+use borrow.Author.Needs.{needs}
+use Rattle.parse_maps.proofs.map_numbers.Statement.{statement}
+use Rattle.parse_maps.proofs.map_numbers.Tie as tie
+
+abbrev Inv-loop : tie.InvT-loop
+Inv-loop sections order lo hi out₀ w n₀ i₀ out n i =
+    (lo ≤ i) × (i ≤ hi) × (n ≡ w + (i - lo)) × (length out ≡ length out₀) × Laid w n (mapNumbers sections (slice lo i order)) out₀ out
+
+abbrev μ-loop : tie.MeasureT-loop
+μ-loop sections order lo hi out₀ w n₀ i₀ out n i = hi - i
+
+loop-holds : tie.Need-loop-holds Inv-loop μ-loop
+loop-holds c =
+    let a = c .args in
+    (omega arith, omega arith, omega arith, refl, laid-none (a .w) _ (now (a .out)) (map-start _ (a .lo) (now (a .order))))
+
+mul-out : tie.Need-mul-out Inv-loop μ-loop
+mul-out c = search needs
+
+shared-slice-read-out : tie.Need-shared-slice-read-out Inv-loop μ-loop
+shared-slice-read-out c = search needs
+
+add-out : tie.Need-add-out Inv-loop μ-loop
+add-out c =
+    let l = c .before .before in
+    omega (arith, l .before .pre .3 (l .loop .i) (l .loop .inv .0) (c .before .loop-test .taken))
+
+mul-out-2 : tie.Need-mul-out-2 Inv-loop μ-loop
+mul-out-2 c = search needs
+
+slice-write-out : tie.Need-slice-write-out Inv-loop μ-loop
+slice-write-out c = search needs
+
+add-n : tie.Need-add-n Inv-loop μ-loop
+add-n c = search needs
+
+add-i : tie.Need-add-i Inv-loop μ-loop
+add-i c = search needs
+
+loop-less : tie.Need-loop-less Inv-loop μ-loop
+loop-less c = search needs
+
+loop-again : tie.Need-loop-again Inv-loop μ-loop
+loop-again c =
+    let l = c .before .before in
+    let a = l .before .args in
+    let js = now (a .order) in
+    let v = l .loop .inv in
+    let i = l .loop .i in
+    let from : a .lo ≤ i = v .0 in
+    let inside : i < length js = omega arith in
+    let room : l .loop .n < length (now (a .out)) = omega arith in (
+      omega arith,
+      omega arith,
+      omega arith,
+      rw length-set (v .3),
+      laid-next (v .4) (a .sections + getD js i 0) _ room (map-in (a .lo) i js from inside (λ j. a .sections + j)),
+    )
+
+same-length : tie.Need-same-length Inv-loop μ-loop
+same-length c = search needs
+
+returns : tie.Need-returns Inv-loop μ-loop
+returns c =
+    let l = c .before in
+    let a = l .before .args in
+    let e : l .loop .i ≡ a .hi = omega arith in
+    let z : Laid (a .w) (l .loop .n) (mapNumbers (a .sections) (slice (a .lo) (a .hi) (now (a .order)))) (now (a .out)) (l .loop .out) = rw (← e) (l .loop .inv .4) in
+    (z .count, z .held)
+
+pub map-numbers-spec : {M : Type 1} → statement M
+map-numbers-spec =
+    tie.close
+    (tie.spec
+    Inv-loop
+    μ-loop
+    loop-holds
+    mul-out
+    shared-slice-read-out
+    add-out
+    mul-out-2
+    slice-write-out
+    add-n
+    add-i
+    loop-less
+    loop-again
+    same-length
+    returns)

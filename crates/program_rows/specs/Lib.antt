@@ -1,2 +1,0 @@
--- What the contracts of `program_rows` cite.
-pub mod Rows

@@ -1,0 +1,61 @@
+-- A map's row, by the records that it is read from.
+use mathlib.Core.Path.{_≡_}
+use mathlib.Core.List.{List}
+use Prim.Native.Nat.{ℕ, _+_, _-_, _<_, _≤_}
+use borrow.Author.Tests.{lt-ltb, le-ltb}
+use lib.ListN.{length}
+use Rattle.model.specs.declared.BpfMapDef.{BpfMapDef}
+use Rattle.model.specs.declared.EbpfSectionKind.{EbpfSectionKind as Kind}
+use Rattle.object_view.specs.declared.View.{View}
+use Rattle.model.specs.declared.SectionRecord.{SectionRecord}
+use Rattle.model.specs.declared.SymbolRecord.{SymbolRecord}
+use Rattle.model.specs.Catalogue.{Map}
+use Rattle.model.specs.Contents.{legacyMap, recordOf, wordsOf, dataMap, dataWords}
+use Rattle.model.specs.SectionKind.{kindNumber, kindOf}
+use Rattle.stream.specs.Stream.{bytesAt, length-bytes}
+use Rattle.stream.specs.Laws.{part-bytes}
+use Rattle.records.specs.View.{gapOf, sectionAt, symbolAt}
+use Rattle.object.specs.View.{sectionFrom, symbolFrom, sectionIn, symbolIn}
+use Rattle.bytes_maps.specs.Own.{ownBytes}
+use Rattle.catalogue_numbers.specs.Numbers.{homeAt, mapAt}
+use Rattle.rows_maps.specs.declared.Row.{Row}
+use Rattle.rows_maps.specs.Rows.{rowOf}
+
+abbrev rowBy : ℕ → ℕ → ℕ → ℕ → ℕ → BpfMapDef → Row
+rowBy length section kind symbol own def = record { length = length; section = section; kind = kind; symbol = symbol; own = own; def = def }
+
+module _ (d t : List ℕ) (v : View) where
+  -- the map of symbol j
+  abbrev pub legacyAt : ℕ → Map
+  legacyAt j = legacyMap (sectionIn d t v (homeAt d t v j)) (symbolIn d t v j)
+
+  -- its record lies in the data of its section
+  abbrev pub Within : ℕ → Type 0
+  Within j = symbolAt d t v j .address + symbolAt d t v j .size ≤ sectionAt d t v (homeAt d t v j) .bytes .length
+
+  pub map-legacy : (n : ℕ) → v .sections ≤ n → mapAt d t v n ≡ legacyAt (n - v .sections)
+  map-legacy n l = rw (le-ltb n (v .sections) l)
+
+  map-data : (n : ℕ) → n < v .sections → mapAt d t v n ≡ dataMap (kindOf (sectionIn d t v n)) (sectionIn d t v n)
+  map-data n l = rw (lt-ltb n (v .sections) l)
+
+  pub data-is : (n : ℕ) (s : SectionRecord) → n < v .sections → s ≡ sectionAt d t v n
+      → rowBy (s .name .length) (s .index .0) (kindNumber (kindOf (sectionFrom d t v s))) 0 (length (ownBytes d t v n)) (dataWords (kindOf (sectionFrom d t v s)) (s .size))
+      ≡ rowOf (mapAt d t v n)
+  unfolding rowOf dataMap sectionFrom
+  data-is n s l e = rw (map-data n l, e, length-bytes)
+
+  module _ (j : ℕ) (y : SymbolRecord) (s : SectionRecord) (ey : y ≡ symbolAt d t v j) (es : s ≡ sectionAt d t v (homeAt d t v j)) where
+    -- what was read lies in the data too
+    pub within-by : Within j → y .address + y .size ≤ s .bytes .length
+    within-by w = rw (es, ey) w
+
+    pub legacy-is : Within j
+        → rowBy (y .name .length) (s .index .0) (kindNumber Kind.Maps) (y .index .0) 0 (wordsOf (bytesAt d (gapOf v) (v .at .bytes + s .bytes .at + y .address) (y .size)))
+        ≡ rowOf (legacyAt j)
+    unfolding rowOf legacyMap recordOf sectionFrom symbolFrom
+    legacy-is w =
+        let b : SymbolRecord = symbolAt d t v j in
+        let x : SectionRecord = sectionAt d t v (homeAt d t v j) in
+        let u : b .address + b .size ≤ x .bytes .length = w in
+        rw (es, ey, length-bytes, part-bytes d (gapOf v) (v .at .bytes + x .bytes .at) (x .bytes .length) (b .address) (b .size) u)

@@ -1,0 +1,2 @@
+-- What the contracts of `rows_numbers` cite.
+pub mod Flat

@@ -1,0 +1,2 @@
+-- What the contracts of `rows_programs` cite.
+pub mod Rows

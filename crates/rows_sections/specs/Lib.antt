@@ -1,0 +1,2 @@
+-- What the contracts of `rows_sections` cite.
+pub mod Rows

@@ -1,2 +1,0 @@
--- What the contracts of `section_rows` cite.
-pub mod Rows

@@ -1,0 +1,2 @@
+-- What the contracts of `symbol_section` cite.
+pub mod Owner
