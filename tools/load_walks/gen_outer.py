@@ -1,23 +1,23 @@
 from common import *
 from heads import HEADS
-S = INNER
-def verdict(x, o, on): return '(verdictIn (%s) (%s) %s (%s) (%s) %s)' % (x(1), x(2), o, x(4), x(5), on)
-A_ = lambda v: (lambda k: '%s%s .now' % (v, proj(S.pos[k])))
-X_ = lambda k: V('x', k) + ' .now'
-body = '''-- what was opened can be read, and has at most B symbols
-abbrev pub AtMost : ℕ → List ℕ → List ℕ → Opened → Type 0
-AtMost B d t o = Open d t o × (symbolsOf o ≤ B)
-
--- each has the signature of `@FIRST`
-abbrev stayed : Stays (load′.ended .signature .params) (load′.ended .kept)
+def outer(S, first, at_one):
+    """The text for one signature; at_one: what meets the contract is shown at one choice of what it binds, as a function that calls itself needs it."""
+    n = S.name
+    A_ = lambda v: (lambda k: '%s%s .now' % (v, proj(S.pos[k])))
+    X_ = lambda k: V('x', k) + ' .now'
+    def verdict(x, o, on): return '(verdictIn (%s) (%s) %s (%s) (%s) %s)' % (x(n['d']), x(n['t']), o, x(n['entries']), x(n['patches']), on)
+    def asked(x, o): return 'Asks (%s) (%s) %s' % (x(n['d']), x(n['t']), o)
+    opened_a = '(a%s)' % proj(S.pos[n['opened']])
+    body = '''-- each has the signature of `%s`
+abbrev pub stayed : Stays (load′.ended .signature .params) (load′.ended .kept)
 stayed = %s
 
 module _ {M : Type 1} (𝓤 : URA M) (H : Heap 𝓤) (A : Atoms 𝓤) (W : Given 𝓤 H A) (Asks : List ℕ → List ℕ → Opened → Type 0) where
   abbrev pub clausesOf : Clauses 𝓤 load′.ended
-  clausesOf κs a = record { ghost = Unit {0}; requires = λ _. fact 𝓤 (Asks (a .0 .now) (a .1 .0 .now) (a .1 .1 .0)); ensures = λ _ r end. fact 𝓤 (Loads (outcomeIn %s %s) r %s) }
+  clausesOf κs a = record { ghost = Unit {0}; requires = λ _. fact 𝓤 (%s); ensures = λ _ r end. fact 𝓤 (Loads (outcomeIn %s %s) r %s) }
 
-''' % (nest([S.stay(p) for p in S.P]), S.room(A_('a')), verdict(A_('a'), '(a .1 .1 .0)', '(a%s)' % proj(5)), ' '.join('(%s)' % A_('end')(p[0]) for p in S.MUTS))
-body += f'''  module _ {S.KQX} where
+''' % (first, nest([S.stay(p) for p in S.P]), asked(A_('a'), opened_a), S.room(A_('a')), verdict(A_('a'), opened_a, '(a%s)' % proj(S.pos[n['rewrite']])), ' '.join('(%s)' % A_('end')(p[0]) for p in S.MUTS))
+    body += f'''  module _ {S.KQX} where
     abbrev pub Toks : Item 𝓤
     Toks = {S.toks}
 
@@ -41,13 +41,43 @@ body += f'''  module _ {S.KQX} where
         suffices ! _ (ends-at 𝓤 H A load′.ended stayed clausesOf W at w r {nest([V('z', p[0]) if p[2] == 'mut' else 'tt' for p in S.P])} {nest([V('e', p[0]) if p[2] == 'mut' else 'tt' for p in S.P])}) $ says ! e $
 {S.exits_body()}
 
-  pub meets : (go : Fun 𝓤) → ((vs : List Val) → Mono 𝓤 (go vs))
-      → ({S.KQX} {S.ROOMS} → Asks (x₁ .now) (x₂ .now) opened → ent 𝓤 (⋆ 𝓤 H A (Toks {S.kqx} ∷ Owned {S.kqx} ∷ [])) (go ({S.flat}) (Post {S.kqx})))
+'''
+    goes = nest([S.goes(p) for p in S.P])
+    tells = nest([S.tells(p) for p in S.P])
+    if at_one:
+        import re
+        at_y = lambda s: re.sub(r'\(a(?= \.)', '(y .0 .3', re.sub(r'\(qs(?= \.)', '(y .0 .1', re.sub(r'\(κs(?= \.)', '(y .0 .0', s)))
+        body += f'''  abbrev pub Contract-of : Contract 𝓤
+  Contract-of = tripleOf 𝓤 H A load′.signature (closing 𝓤 H A load′.ended clausesOf)
+
+  pub meets-at : (go : Fun 𝓤) → ((vs : List Val) → Mono 𝓤 (go vs)) → (y : Contract-of .Ghost)
+      → ({S.KQX} {S.ROOMS} → {at_y(S.arg(S.P[0]))} ≡ y .0 .3 .0 → {asked(X_, 'opened')} → ent 𝓤 (⋆ 𝓤 H A (Toks {S.kqx} ∷ Owned {S.kqx} ∷ [])) (go ({S.flat}) (Post {S.kqx})))
+      → ent 𝓤 (Contract-of .pre y) (go (Contract-of .args y) (Contract-of .post y))
+  meets-at go mono y walk =
+      walk-meets-at 𝓤 H A load′.ended stayed W {goes} clausesOf go mono y
+      (walked-at 𝓤 H A load′.ended stayed clausesOf go y {S.valsf()} {at_y(tells)}
+      (λ are. needs 𝓤 ({at_y(asked(lambda k: '(a%s) .now' % proj(S.pos[k]), opened_a))}) _ (walk {at_y(S.applied())} refl)))
+'''
+    else:
+        body += f'''  pub meets : (go : Fun 𝓤) → ((vs : List Val) → Mono 𝓤 (go vs))
+      → ({S.KQX} {S.ROOMS} → {asked(X_, 'opened')} → ent 𝓤 (⋆ 𝓤 H A (Toks {S.kqx} ∷ Owned {S.kqx} ∷ [])) (go ({S.flat}) (Post {S.kqx})))
       → Meets 𝓤 H A load′.signature go (closing 𝓤 H A load′.ended clausesOf)
   meets go mono walk =
-      walk-meets 𝓤 H A load′.ended stayed W {nest([S.goes(p) for p in S.P])} clausesOf go mono
-      (walked 𝓤 H A load′.ended stayed clausesOf go (λ κs. {S.valsf()}) (λ κs. {nest([S.tells(p) for p in S.P])})
-      (λ κs qs bounds a g are. needs 𝓤 (Asks (a .0 .now) (a .1 .0 .now) (a .1 .1 .0)) _ (walk {S.applied()})))
+      walk-meets 𝓤 H A load′.ended stayed W {goes} clausesOf go mono
+      (walked 𝓤 H A load′.ended stayed clausesOf go (λ κs. {S.valsf()}) (λ κs. {tells})
+      (λ κs qs bounds a g are. needs 𝓤 ({asked(A_('a'), opened_a)}) _ (walk {S.applied()})))
 '''
-T = '-- The outside of each function that loads what was opened: one contract, but for what it asks of that (`Asks`), and how a walk\'s end, at any function of this signature, meets it. Assumes `Given`.\n' + uses(body, [h for h in HEADS if '.Outer' not in h]) + '\n\n' + body
-open(OUT + '/proofs/Outer.antt', 'w').write(T.replace('@FIRST', FIRST))
+    return body
+
+ATMOST = '''-- what was opened can be read, and has at most B symbols
+abbrev pub AtMost : ℕ → List ℕ → List ℕ → Opened → Type 0
+AtMost B d t o = Open d t o × (symbolsOf o ≤ B)
+
+'''
+def put(file, head, body, heads):
+    open(OUT + '/proofs/' + file, 'w').write(head + uses(body, heads) + '\n\n' + body)
+heads = [h for h in HEADS if '.Outer' not in h and '.Choice' not in h]
+put('Outer.antt', '-- The outside of each function that loads what was opened: one contract, but for what it asks of that (`Asks`), and how a walk\'s end, at any function of this signature, meets it. Assumes `Given`.\n',
+    ATMOST + outer(INNER, FIRST, False), heads)
+put('OuterMore.antt', '-- The same of `load_more`, which has a flag before the others and calls itself. Assumes `Given`.\n',
+    outer(MORE, 'load_more', True), [h.replace('proofs.proofs.' + FIRST + ' as load′', 'proofs.proofs.load_more as load′') for h in heads])

@@ -77,6 +77,7 @@ class Ctx:
         if isinstance(t, list) and t[0] == 'tyInt': return '(tt, record { fits = %s })' % fit
         return '(tt, tt)'
     def opd(self, o):
+        if isinstance(o, str): return '(%s-lit !)' % o, None
         if o[0] == 'int': return self.lits.get(o[2], '(lit ! tt)'), None
         p = o[1]; k = int(p[1]); st = W['lst'](p[2])
         if not st: return '(load ! (from ! (stop !)) (look ! %d refl))' % self.pos('_%d' % k), self.fits.get(k)

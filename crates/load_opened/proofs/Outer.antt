@@ -43,7 +43,7 @@ abbrev pub AtMost : ℕ → List ℕ → List ℕ → Opened → Type 0
 AtMost B d t o = Open d t o × (symbolsOf o ≤ B)
 
 -- each has the signature of `load_64`
-abbrev stayed : Stays (load′.ended .signature .params) (load′.ended .kept)
+abbrev pub stayed : Stays (load′.ended .signature .params) (load′.ended .kept)
 stayed = (stay-dropped (shrSliceOf (0 ∷ []) tt (plain (λ _. u8))) yes, (stay-dropped (shrSliceOf (1 ∷ []) tt (plain (λ _. u32))) yes, (stay-dropped (plain (λ _. O.the-row)) yes, (stay-dropped (shrSliceOf (2 ∷ []) tt (plain (λ _. u64))) yes, (stay-dropped (shrSliceOf (3 ∷ []) tt (plain (λ _. u8))) yes, (stay-dropped (plain (λ _. Boolean)) yes, (gave-slice (4 ∷ []) tt (plain (λ _. u64)), (gave-slice (5 ∷ []) tt (plain (λ _. u64)), (gave-slice (6 ∷ []) tt (plain (λ _. T.the-row)), (gave-slice (7 ∷ []) tt (plain (λ _. u64)), (gave-slice (8 ∷ []) tt (plain (λ _. u64)), (gave-slice (9 ∷ []) tt (plain (λ _. u8)), tt))))))))))))
 
 module _ {M : Type 1} (𝓤 : URA M) (H : Heap 𝓤) (A : Atoms 𝓤) (W : Given 𝓤 H A) (Asks : List ℕ → List ℕ → Opened → Type 0) where

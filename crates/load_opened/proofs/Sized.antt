@@ -49,6 +49,7 @@ use Rattle.load_opened.specs.Loads.{Loads}
 use Rattle.load_opened.proofs.Again.{LentAgain, lends-again, comes-back}
 use Rattle.load_opened.specs.Shared.{shares-all}
 use Rattle.load_opened.proofs.Outer as outer
+use Rattle.load_opened.proofs.Choice.{asked}
 use Rattle.load_opened.proofs.Scratch.{Const, const, zeros, length-zeros, zeros-is, zeros-room, scratch-room}
 use Rattle.load_opened.specs.Slot.{lends-array}
 use Rattle.model.proofs.Function as T

@@ -164,7 +164,10 @@ fn is_medium(opened: Opened) -> bool
     }
 }
 
+// For more than 64 symbols: the largest array where `large` says so, else 2,048 numbers where they are enough.
+// It calls itself, so that the compiler gives each array a frame of its own.
 fn load_more(
+    large: bool,
     d: &[u8],
     t: &[u32],
     opened: Opened,
@@ -187,7 +190,22 @@ fn load_more(
         (verdictIn (now (d .entry)) (now (t .entry)) opened (now (entries .entry)) (now (patches .entry)) rewrite)
         ⌝ }
 {
-    if is_medium(opened) {
+    if large {
+        load_65536(
+            d,
+            t,
+            opened,
+            entries,
+            patches,
+            rewrite,
+            sections,
+            programs,
+            functions,
+            maps,
+            relocations,
+            bytes,
+        )
+    } else if is_medium(opened) {
         load_2048(
             d,
             t,
@@ -203,7 +221,8 @@ fn load_more(
             bytes,
         )
     } else {
-        load_65536(
+        load_more(
+            true,
             d,
             t,
             opened,
@@ -261,6 +280,7 @@ pub fn load_opened(
         )
     } else {
         load_more(
+            false,
             d,
             t,
             opened,
