@@ -12,7 +12,7 @@ def prodT(ts): return 'Unit {0}' if not ts else '%s × (%s)' % (ts[0], prodT(ts[
 OVALS = 'EL.vals O.the-type O′.the-laws'
 
 class Sig:
-    """parameters: (number, name, kind, row); kind shr, mut, bool, enum, or flag: a bool that is called by its name, or that name is its value"""
+    """parameters: (number, name, kind, row); kind shr, mut, bool, enum, or count: a u32 that is called by its name, or that name is its value"""
     def __init__(s, P):
         s.P = P
         s.REFS = [p for p in P if p[2] in ('shr', 'mut')]; s.MUTS = [p for p in P if p[2] == 'mut']
@@ -27,7 +27,7 @@ class Sig:
         s.params = ' '.join('(%s : %s)' % (s.arg(p), s.argT(p)) + (' (%s : Val)' % V('v', p[0]) if p[2] == 'enum' else '') for p in P)
         s.KQX = '(%s : Lft) (%s : Share) %s' % (' '.join(V('κ', p[0]) for p in s.REFS), ' '.join(V('q', p[0]) for p in s.REFS), s.params)
         s.kqx = ' '.join([V('κ', p[0]) for p in s.REFS] + [V('q', p[0]) for p in s.REFS] + [s.arg(p) + (' ' + V('v', p[0]) if p[2] == 'enum' else '') for p in P])
-        s.FACTP = [p for p in P if p[2] not in ('bool', 'flag')]
+        s.FACTP = [p for p in P if p[2] != 'bool']
         s.ROOMS = ' '.join('(%s : %s)' % (V('g', p[0]), s.fact(p)) for p in s.FACTP)
         s.gvars = ' '.join(V('g', p[0]) for p in s.FACTP)
         s.zl = [(V('z', p[0]), den(p[3])) for p in s.MUTS]
@@ -39,39 +39,43 @@ class Sig:
         s.LastsT = prodT(['List ' + den(p[3]) if p[2] == 'mut' else 'Unit {0}' for p in P])
         s.pos = {p[0]: j for j, p in enumerate(P)}
         s.name = {p[1]: p[0] for p in P}
-    def arg(s, p): return {'bool': 'on', 'enum': 'opened', 'flag': p[1]}.get(p[2]) or V('x', p[0])
-    def argT(s, p): return {'bool': 'Bool', 'enum': 'Opened', 'flag': 'Bool'}.get(p[2]) or 'RefT (List %s)' % den(p[3])
-    def val(s, p): return {'bool': 'bool-vals on', 'flag': 'bool-vals ' + p[1], 'enum': V('v', p[0]) + ' ∷ []'}.get(p[2]) or 'slice-vals ' + V('x', p[0])
-    def flatv(s, p): return {'bool': 'vbool on', 'flag': 'vbool ' + p[1], 'enum': V('v', p[0])}.get(p[2]) or 'sliceVal (%s .ptr) (length (%s .now))' % (V('x', p[0]), V('x', p[0]))
+    def arg(s, p): return {'bool': 'on', 'enum': 'opened', 'count': p[1]}.get(p[2]) or V('x', p[0])
+    def argT(s, p): return {'bool': 'Bool', 'enum': 'Opened', 'count': 'ℕ'}.get(p[2]) or 'RefT (List %s)' % den(p[3])
+    def val(s, p): return {'bool': 'bool-vals on', 'count': 'uint-vals w32 ' + par(p[1]), 'enum': V('v', p[0]) + ' ∷ []'}.get(p[2]) or 'slice-vals ' + V('x', p[0])
+    def flatv(s, p): return {'bool': 'vbool on', 'count': 'vint w32 ' + par(p[1]), 'enum': V('v', p[0])}.get(p[2]) or 'sliceVal (%s .ptr) (length (%s .now))' % (V('x', p[0]), V('x', p[0]))
     def ty(s, p, j=None):
-        if p[2] in ('bool', 'flag'): return 'Boolean'
+        if p[2] == 'bool': return 'Boolean'
+        if p[2] == 'count': return 'u32'
         if p[2] == 'enum': return 'O.the-row'
         return ('ShrSlice' if p[2] == 'shr' else 'MutSlice') + ' (named %d) %s %s' % (s.LIF[p[0]] if j is None else j, V('κ', p[0]), p[3])
-    def fact(s, p): return 'Is O.the-row opened (%s ∷ [])' % V('v', p[0]) if p[2] == 'enum' else 'Room %s (length (%s .now))' % (p[3], V('x', p[0]))
+    def fact(s, p):
+        if p[2] == 'count': return '%s < 2 ^ 32' % p[1]
+        return 'Is O.the-row opened (%s ∷ [])' % V('v', p[0]) if p[2] == 'enum' else 'Room %s (length (%s .now))' % (p[3], V('x', p[0]))
     def ev(s, c, p):
         if p[2] == 'enum': return '(EL.lawful O.the-type O′.the-laws 𝓤 H A W tt .typed opened _ %s .0)' % V('g', p[0])
-        c.fits[p[0]] = V('g', p[0]) + ' .0' if p[2] in ('shr', 'mut') else None
+        c.fits[p[0]] = V('g', p[0]) + ' .0' if p[2] in ('shr', 'mut') else V('g', p[0]) if p[2] == 'count' else None
         return c.ev(p[0], c.fits[p[0]])
     def passes(s, c):
         for p in s.P: c.passes(p[0], s.ev(c, p))
         c.e('pass0 !', True)
     def stay(s, p):
         j = s.LIF.get(p[0])
-        return {'bool': 'stay-dropped (plain (λ _. Boolean)) yes', 'flag': 'stay-dropped (plain (λ _. Boolean)) yes', 'enum': 'stay-dropped (plain (λ _. O.the-row)) yes',
+        return {'bool': 'stay-dropped (plain (λ _. Boolean)) yes', 'count': 'stay-dropped (plain (λ _. u32)) yes', 'enum': 'stay-dropped (plain (λ _. O.the-row)) yes',
                 'shr': 'stay-dropped (shrSliceOf (%s ∷ []) tt (plain (λ _. %s))) yes' % (j, p[3]), 'mut': 'gave-slice (%s ∷ []) tt (plain (λ _. %s))' % (j, p[3])}[p[2]]
     def goes(s, p):
         j = s.LIF.get(p[0]); n = s.nl
-        return {'bool': 'goes-dropped 𝓤 H A W %d (plain (λ _. Boolean)) yes (λ κs x f. refl)' % n, 'flag': 'goes-dropped 𝓤 H A W %d (plain (λ _. Boolean)) yes (λ κs x f. refl)' % n, 'enum': 'goes-dropped 𝓤 H A W %d (plain (λ _. O.the-row)) yes (λ κs x f. refl)' % n,
+        return {'bool': 'goes-dropped 𝓤 H A W %d (plain (λ _. Boolean)) yes (λ κs x f. refl)' % n, 'count': 'goes-dropped 𝓤 H A W %d (plain (λ _. u32)) yes (λ κs x f. refl)' % n, 'enum': 'goes-dropped 𝓤 H A W %d (plain (λ _. O.the-row)) yes (λ κs x f. refl)' % n,
                 'shr': 'goes-dropped 𝓤 H A W %d (shrSliceOf (%s ∷ []) tt (plain (λ _. %s))) yes (λ κs x f. refl)' % (n, j, p[3]), 'mut': 'goes-gave-slice 𝓤 H A W %d %s tt (plain (λ _. %s))' % (n, j, p[3])}[p[2]]
     def tells(s, p):
-        if p[2] in ('bool', 'flag'): return 'bool-tells'
+        if p[2] == 'bool': return 'bool-tells'
+        if p[2] == 'count': return 'uint-tells w32'
         if p[2] == 'enum': return 'EL.tells O.the-type O′.the-laws'
         j = s.LIF[p[0]]
         return '%s-slice-tells (named %d) (κs%s) %s' % (p[2], j, proj(j), p[3])
-    def valsf(s): return nest([{'bool': 'bool-vals', 'flag': 'bool-vals', 'enum': OVALS}.get(p[2], 'slice-vals') for p in s.P])
+    def valsf(s): return nest([{'bool': 'bool-vals', 'count': 'uint-vals w32', 'enum': OVALS}.get(p[2], 'slice-vals') for p in s.P])
     def applied(s):
         return ' '.join(['(κs%s)' % proj(s.LIF[p[0]]) for p in s.REFS] + ['(qs%s)' % proj(s.LIF[p[0]]) for p in s.REFS] + ['(a%s)' % proj(s.pos[p[0]]) + (' (EL.val O.the-type O′.the-laws (a%s))' % proj(s.pos[p[0]]) if p[2] == 'enum' else '') for p in s.P]
-                        + ['(are%s%s)' % (proj(s.pos[p[0]]), '' if p[2] == 'enum' else ' .0 .1') for p in s.FACTP])
+                        + ['(are%s%s)' % (proj(s.pos[p[0]]), {'enum': '', 'count': ' .1'}.get(p[2], ' .0 .1')) for p in s.FACTP])
     def room(s, x):   # x: function of the parameter's number
         return '(lentRoom %s)' % ' '.join('(length (%s))' % x(s.name[n]) for n in ('sections', 'programs', 'functions', 'maps', 'relocations', 'bytes'))
     def exits_body(s):
@@ -92,7 +96,7 @@ class Sig:
 TAB = [('sections', 'mut', 'u64'), ('programs', 'mut', 'u64'), ('functions', 'mut', 'T.the-row'), ('maps', 'mut', 'u64'), ('relocations', 'mut', 'u64'), ('bytes', 'mut', 'u8')]
 def num(ps): return [(k + 1,) + p for k, p in enumerate(ps)]
 INNER = Sig(num([('d', 'shr', 'u8'), ('t', 'shr', 'u32'), ('opened', 'enum', None), ('entries', 'shr', 'u64'), ('patches', 'shr', 'u8'), ('rewrite', 'bool', None)] + TAB))
-MORE = Sig(num([('large', 'flag', None)] + [p[1:] for p in INNER.P]))
+MORE = Sig(num([('tries', 'count', None)] + [p[1:] for p in INNER.P]))
 OUTER = Sig(num([('d', 'shr', 'u8'), ('entries', 'shr', 'u64'), ('patches', 'shr', 'u8'), ('rewrite', 'bool', None)] + TAB))
 
 # --- MIR as antt
@@ -112,7 +116,6 @@ def mplace(p):
     for s in W['lst'](p[2]): st.append('field ' + s[1] if s[0] == 'field' else 'deref ' + par(mty(s[1])))
     return '(place %s %s)' % (p[1], '(' + lst(st) + ')' if st else '[]')
 def mopd(o, N=None):
-    if isinstance(o, str): return {'true': 'opdTrue', 'false': 'opdFalse'}[o]
     return 'copy ' + mplace(o[1]) if o[0] == 'copy' else ('len' if o[2] == N else 'int w%s %s' % (o[1], o[2]))
 def mopds(os, N=None): return '(' + lst(mopd(o, N) for o in os) + ')'
 def mrv(r, N=None):
@@ -121,6 +124,7 @@ def mrv(r, N=None):
     if k == 'addrOf': return 'addrOf ' + mplace(r[1])
     if k == 'aggregate': return 'aggregate ' + mopds(W['lst'](r[1]), N)
     if k == 'repeat': return 'repeat (%s) N' % mopd(r[1])
+    if k == 'op2': return 'op2 %s (%s) (%s)' % (r[1] if isinstance(r[1], str) else '(minus %s)' % r[1][1], mopd(r[2]), mopd(r[3]))
     raise Exception(r)
 def mst(b, calls, N=None):
     if b == 'return': return 'return'

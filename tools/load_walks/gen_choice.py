@@ -33,7 +33,7 @@ c.enter(fa, None); S.passes(c)
 ls_ = ' '.join('l' + sub(k) for k in range(c.n))
 ask(c, call0, 'B')
 c.note('[the tokens; what the parameters own; the locals]')
-TWO = Sig([(0, 'false', 'flag', None)] + S.P)
+TWO = Sig([(0, '2', 'count', None)] + S.P)
 values = list(range(0, 15))
 A1 = Arm(S, S, 'One', 'at', 'load′.ended', 'outer.clausesOf 𝓤 H A W (AtMost B)', 'goes-one (most-of y (symbolsOf opened) B e yes)', 'calls-at-last ! fm One known-one at', 'Lasts', 'En ' + ls_, tail, values).text(c, cond[2])
 A2 = Arm(S, TWO, 'Two', 'to-two', 'more.ended', 'outer-more.clausesOf 𝓤 H A W Open', 'goes-two', 'calls-at-last ! fm Two known-two to-two', 'Unit {0} × (Lasts)', 'En ' + ls_, tail, values).text(c, cond[3])
@@ -112,7 +112,7 @@ module _ {{M : Type 1}} (𝓤 : URA M) (H : Heap 𝓤) (A : Atoms 𝓤) (W : Giv
   goes-one few = qed W (Toks ∷ Owned ∷ []) ∵ says ! (opens, few) $ done !
 
   goes-two : ent 𝓤 (⋆ 𝓤 H A (Toks ∷ Owned ∷ [])) (Two .pre to-two)
-  goes-two = qed W (Toks ∷ Owned ∷ []) ∵ move ! (1 ∷ []) $ owned ! Boolean (Is Boolean) (bool-makes 𝓤 H A W) false _ refl $ fjoin ! $ move ! (1 ∷ 0 ∷ []) $ says ! opens $ done !
+  goes-two = qed W (Toks ∷ Owned ∷ []) ∵ move ! (1 ∷ []) $ owned ! u32 (Is u32) (uint-makes 𝓤 H A W w32) 2 _ (refl, lit< tt) $ fjoin ! $ move ! (1 ∷ 0 ∷ []) $ says ! opens $ done !
 
   abbrev En : {' → '.join(['ℕ'] * c.n)} → Env 𝓤 H
   En {ls_} = {En}

@@ -12,17 +12,18 @@ c.out.append(c.pad + 'qed W (Toks ∷ Owned ∷ []) ∵ enter ! C Λ function (%
 c.enter(fa, None); S.passes(c)
 ls_ = ' '.join('l' + sub(k) for k in range(c.n))
 c.assign(copied, '(tt, tt)')
-c.fsplit('Owns', 'flag', 'Owns'); c.drop('flag'); c.move('Toks', 'Owns')
-c.note('[the tokens; what the parameters but the flag own; the locals]')
-BARE = Sig(S.P[1:]); SELF = Sig([(1, 'true', 'flag', None)] + S.P[1:])
+c.fsplit('Owns', 'tries', 'Owns'); c.drop('tries'); c.move('Toks', 'Owns')
+c.note('[the tokens; what the parameters but the tries own; the locals]')
+BARE = Sig(S.P[1:]); SELF = Sig([(1, '(tries - 1)', 'count', None)] + S.P[1:])
 LASTS = 'Lasts'
 e_ = 'En ' + ls_
+Ctx.ops = {42: ('(positive tries left)', 'less g₁')}
 A1 = Arm(S, BARE, 'All', 'at', 'load′.ended', 'outer.clausesOf 𝓤 H A W Open', 'goes-all', 'calls-at-last ! fm All known-all at', LASTS, e_, tail, list(range(0, 16))).text(c, outer_if[2])
 m = Ctx(c.c); m.fits = dict(c.fits); m.fn = c.fn; m.n = c.n
 ask(m, call0, '2048')
 values = list(range(0, 16)) + [28, 29]
 A2 = Arm(S, BARE, 'Some', 'at', 'load′.ended', 'outer.clausesOf 𝓤 H A W (AtMost 2048)', 'goes-some (most-of y (symbolsOf opened) 2048 e yes)', 'calls-at-last ! fm Some known-some at', LASTS, e_, tail, values, back).text(m, inner_if[2])
-A3 = Arm(S, SELF, 'Self', 'again', 'more.ended', 'outer-more.clausesOf 𝓤 H A W Open', 'goes-self', 'calls-from-last ! fm (raw (Self .pre again)) (Self .args again) (Self .post again) (smaller again (falls large fewer))', 'Unit {0} × (Lasts)', e_, tail, values, back).text(m, inner_if[3])
+A3 = Arm(S, SELF, 'Self', 'again', 'more.ended', 'outer-more.clausesOf 𝓤 H A W Open', 'goes-self', 'calls-from-last ! fm (raw (Self .pre again)) (Self .args again) (Self .post again) (smaller again (falls tries left))', 'Unit {0} × (Lasts)', e_, tail, values, back).text(m, inner_if[3])
 TYS = [par(t) for t in LA]
 def items(ctx, vals):
     """A context as a list of items: which locals hold a value, and which."""
@@ -35,24 +36,26 @@ def items(ctx, vals):
             k = int(x[1:])
             out.append('‵ (fat fullShare %s l%s 0 %s)' % (TYS[k], sub(k), par(vals[k])) if k in vals else '‵ (froom %s l%s 0)' % (TYS[k], sub(k)))
     return lst(out)
-VALS = {p[0]: S.flatv(p) for p in S.P}; VALS[14] = 'vbool large'
+VALS = {p[0]: S.flatv(p) for p in S.P}; VALS[14] = 'vbool (eqb tries 0)'
 BEFORE = items(c, VALS); ASKED = items(m, {**VALS, 28: 'vbool y'})
-c.e('first !'); c.line += 'branches ! %s (λ yes. whole-arm %s yes) (λ fewer. other-arm %s fewer)' % (c.opd(outer_if[1])[0], ls_, ls_); c.nl()
-m.e('first !'); m.line += 'branches ! %s (λ yes. some-arm y e yes) (λ more-than. self-arm y fewer)' % m.opd(inner_if[1])[0]; m.nl()
+c.e('first !'); c.line += 'branches ! %s (λ yes. whole-arm %s yes) (λ left. other-arm %s left)' % (c.opd(outer_if[1])[0], ls_, ls_); c.nl()
+m.e('first !'); m.line += 'branches ! %s (λ yes. some-arm y e yes) (λ more-than. self-arm y left)' % m.opd(inner_if[1])[0]; m.nl()
 WALK = '\n'.join(c.out) + ')' * c.open
 OTHER = '\n'.join(m.out) + ')' * m.open
 n = S.name
 OPEN = 'Open (%s .now) (%s .now) opened' % (V('x', n['d']), V('x', n['t']))
 body = locals_text(fa, ['abbrev locals : List Local', 'locals =']) + f'''
 
--- how often it may still call itself
-abbrev turns : Bool → ℕ
-turns true = 0
-turns false = 1
+positive : (tries : ℕ) → T (not (eqb tries 0)) → 1 ≤ tries
+positive zero left = absurd left
+positive (suc n) left = omega arith
 
-falls : (large : Bool) → T (not large) → turns true < turns large
-falls true n = absurd n
-falls false n = lit< tt
+-- a try fewer
+falls : (tries : ℕ) → T (not (eqb tries 0)) → tries - 1 < tries
+falls tries left = omega (arith, positive tries left)
+
+less : {{tries : ℕ}} → tries < 2 ^ 32 → tries - 1 < 2 ^ 32
+less small = omega arith
 
 abbrev back : Body
 back = {mst(back, NAMES)}
@@ -98,7 +101,7 @@ module _ {{M : Type 1}} (𝓤 : URA M) (H : Heap 𝓤) (A : Atoms 𝓤) (W : Giv
   Itself = outer-more.Contract-of 𝓤 H A W Open
 
   abbrev μ : Itself .Ghost → ℕ
-  μ y = turns (y .0 .3 .0)
+  μ y = y .0 .3 .0
 
 module _ {{M : Type 1}} (𝓤 : URA M) (H : Heap 𝓤) (A : Atoms 𝓤) (W : Given 𝓤 H A)
     {S.KQX}
@@ -121,7 +124,7 @@ module _ {{M : Type 1}} (𝓤 : URA M) (H : Heap 𝓤) (A : Atoms 𝓤) (W : Giv
   abbrev Owned : Item 𝓤
   Owned = outer-more.Owned 𝓤 H A W Open {S.kqx}
 
-  -- that without the flag
+  -- that without the tries
   abbrev Rest : Item 𝓤
   Rest = ‵ (owns ({BARE.tys}) {BARE.args} {BARE.vals})
 
@@ -158,18 +161,18 @@ module _ {{M : Type 1}} (𝓤 : URA M) (H : Heap 𝓤) (A : Atoms 𝓤) (W : Giv
   goes-all = qed W (Toks ∷ Rest ∷ []) ∵ says ! opens $ done !
 
   goes-self : ent 𝓤 (⋆ 𝓤 H A (Toks ∷ Rest ∷ [])) (Self .pre again)
-  goes-self = qed W (Toks ∷ Rest ∷ []) ∵ move ! (1 ∷ []) $ owned ! Boolean (Is Boolean) (bool-makes 𝓤 H A W) true _ refl $ fjoin ! $ move ! (1 ∷ 0 ∷ []) $ says ! opens $ done !
+  goes-self = qed W (Toks ∷ Rest ∷ []) ∵ move ! (1 ∷ []) $ owned ! u32 (Is u32) (uint-makes 𝓤 H A W w32) (tries - 1) _ (refl, less g₁) $ fjoin ! $ move ! (1 ∷ 0 ∷ []) $ says ! opens $ done !
 
   abbrev En : {' → '.join(['ℕ'] * c.n)} → Env 𝓤 H
   En {ls_} = {En}
 
   module _ (C : Calls 𝓤 H) (Λ : Loops 𝓤 H) (fm : FmC 𝓤 H (W .laws) C) (known-test : Triple 𝓤 (C #is-medium) Test) (known-some : Triple 𝓤 (C #load-2048) Some) (known-all : Triple 𝓤 (C #load-65536) All)
-      (smaller : (y : Self .Ghost) → μ 𝓤 H A W y < turns large → ent 𝓤 (Self .pre y) (C #load-more (Self .args y) (Self .post y))) where
+      (smaller : (y : Self .Ghost) → μ 𝓤 H A W y < tries → ent 𝓤 (Self .pre y) (C #load-more (Self .args y) (Self .post y))) where
     module _ ({ls_} : ℕ) where
       abbrev Here : Env 𝓤 H
       Here = En {ls_}
 
-      -- where the test of the flag stands, and where that of the count does
+      -- where the test of the tries stands, and where that of the count does
       abbrev Before : List (Item 𝓤)
       Before = {BEFORE}
 
@@ -183,7 +186,7 @@ module _ {{M : Type 1}} (𝓤 : URA M) (H : Heap 𝓤) (A : Atoms 𝓤) (W : Giv
       abbrev Then-back : Kit.Post 𝓤 H
       Then-back = anyQ (afterSeq 𝓤 H (Wp 𝓤 H C Λ Here back (Kit.post 𝓤 H Then)) (Kit.post 𝓤 H Then))
 
-      whole-arm : T large → Sq W Before (runs C Λ Here whole-body Then)
+      whole-arm : T (eqb tries 0) → Sq W Before (runs C Λ Here whole-body Then)
       whole-arm yes =
 {A1}
 
@@ -191,12 +194,12 @@ module _ {{M : Type 1}} (𝓤 : URA M) (H : Heap 𝓤) (A : Atoms 𝓤) (W : Giv
       some-arm y e yes =
 {A2}
 
-      self-arm : (y : Bool) → T (not large) → Sq W (Asked y) (runs C Λ Here self-body Then-back)
-      self-arm y fewer =
+      self-arm : (y : Bool) → T (not (eqb tries 0)) → Sq W (Asked y) (runs C Λ Here self-body Then-back)
+      self-arm y left =
 {A3}
 
-      other-arm : T (not large) → Sq W Before (runs C Λ Here other-body Then)
-      other-arm fewer =
+      other-arm : T (not (eqb tries 0)) → Sq W Before (runs C Λ Here other-body Then)
+      other-arm left =
 {OTHER}
 
     walk : ent 𝓤 (⋆ 𝓤 H A (Toks ∷ Owned ∷ [])) (WpFn 𝓤 H C Λ function ({S.flat}) Post)
@@ -215,7 +218,7 @@ module _ {{M : Type 1}} (𝓤 : URA M) (H : Heap 𝓤) (A : Atoms 𝓤) (W : Giv
       outer-more.meets-at 𝓤 H A W Open (WpFn 𝓤 H (𝓣 .C) (𝓣 .Λ) function) (WpFn-mono 𝓤 H (W .laws) 𝓣 function) y
       (λ {S.kqx} {S.gvars} is opens.
       walk 𝓤 H A W {S.kqx} {S.gvars} opens (𝓣 .C) (𝓣 .Λ) (fmOf 𝓤 H (W .laws) 𝓣) known-test known-some known-all
-      (λ y′ lt. below y′ (subst (λ (m : ℕ). μ 𝓤 H A W y′ < m) (ap turns is ∙ e) lt)))
+      (λ y′ lt. below y′ (subst (λ (m : ℕ). μ 𝓤 H A W y′ < m) (is ∙ e) lt)))
 
 pub +load-more-spec : {{M : Type 1}} → cycle.statement M
 unfolding code.load-more-routine tablesOf
@@ -236,6 +239,6 @@ for g in ('is_medium', 'load_2048', 'load_65536'):
     u = g.replace('_', '-')
     MINE += [f'{P}{g}.Symbol as {u}-def', f'{P}{g}.Symbol.{{name as #{u}}}', f'{P}{g}.Met as {u}-thm']
 MINE += [P + 'load_more.Key.{name as #load-more}', P + '+load_more as cycle', P + '+load_more.Code as code']
-T = '-- `load_opened::load_more` meets its contract: a walk of its MIR, with a call of itself. The measure is how often it may still do that. Assumes nothing.\n' + uses(body, [h for h in HEADS if ' as code' not in h]) + '\n' + '\n'.join(MINE) + '\n\n' + body
+T = '-- `load_opened::load_more` meets its contract: a walk of its MIR, with a call of itself. The measure is how many tries are left. Assumes nothing.\n' + uses(body, [h for h in HEADS if ' as code' not in h]) + '\n' + '\n'.join(MINE) + '\n\n' + body
 os.makedirs(OUT + '/proofs/+load_more', exist_ok=True)
 open(OUT + '/proofs/+load_more/Proof.antt', 'w').write(T)

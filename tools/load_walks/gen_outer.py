@@ -79,5 +79,5 @@ def put(file, head, body, heads):
 heads = [h for h in HEADS if '.Outer' not in h and '.Choice' not in h]
 put('Outer.antt', '-- The outside of each function that loads what was opened: one contract, but for what it asks of that (`Asks`), and how a walk\'s end, at any function of this signature, meets it. Assumes `Given`.\n',
     ATMOST + outer(INNER, FIRST, False), heads)
-put('OuterMore.antt', '-- The same of `load_more`, which has a flag before the others and calls itself. Assumes `Given`.\n',
+put('OuterMore.antt', '-- The same of `load_more`, which has a count before the others and calls itself. Assumes `Given`.\n',
     outer(MORE, 'load_more', True), [h.replace('proofs.proofs.' + FIRST + ' as load′', 'proofs.proofs.load_more as load′') for h in heads])

@@ -77,7 +77,6 @@ class Ctx:
         if isinstance(t, list) and t[0] == 'tyInt': return '(tt, record { fits = %s })' % fit
         return '(tt, tt)'
     def opd(self, o):
-        if isinstance(o, str): return '(%s-lit !)' % o, None
         if o[0] == 'int': return self.lits.get(o[2], '(lit ! tt)'), None
         p = o[1]; k = int(p[1]); st = W['lst'](p[2])
         if not st: return '(load ! (from ! (stop !)) (look ! %d refl))' % self.pos('_%d' % k), self.fits.get(k)
@@ -87,7 +86,7 @@ class Ctx:
         s = '(no-more !)'
         for o in reversed(os): s = '(and-then ! %s %s)' % (self.opd(o)[0], s)
         return s
-    lits = {}; litfits = {}
+    lits = {}; litfits = {}; ops = {}
     def assign(self, b, ev=None):
         k = int(b[1][1]); r = b[2]; fit = None
         assert not W['lst'](b[1][2])
@@ -98,6 +97,8 @@ class Ctx:
         elif r[0] == 'aggregate':
             os = W['lst'](r[1]); rv = 'agg ! ' + self.opds(os); o = os[-1]
             fit = self.litfits.get(o[2]) if o[0] == 'int' else self.fits.get(int(o[1][1]))
+        elif r[0] == 'op2':    # evidence: what the operation asks, how the result fits
+            asks, fit = self.ops.get(k, ('tt', None)); rv = 'bin ! %s %s %s' % (self.opd(r[2])[0], self.opd(r[3])[0], asks)
         elif r[0] == 'repeat': rv = 'rep ! %s %s' % (self.repn, self.opd(r[1])[0])
         self.fits[k] = fit
         self.e('assigns ! (%s) (from ! (stop !)) (init ! %d refl %s)' % (rv, self.pos('_%d' % k), ev or self.ev(k, fit)), True)

@@ -164,10 +164,10 @@ fn is_medium(opened: Opened) -> bool
     }
 }
 
-// For more than 64 symbols: the largest array where `large` says so, else 2,048 numbers where they are enough.
-// It calls itself, so that the compiler gives each array a frame of its own.
+// For more than 64 symbols: 2,048 numbers where they are enough, else the largest array once no try is left.
+// It calls itself, so that the compiler gives each array a frame of its own: twice, since it sees through one call.
 fn load_more(
-    large: bool,
+    tries: u32,
     d: &[u8],
     t: &[u32],
     opened: Opened,
@@ -190,7 +190,7 @@ fn load_more(
         (verdictIn (now (d .entry)) (now (t .entry)) opened (now (entries .entry)) (now (patches .entry)) rewrite)
         ⌝ }
 {
-    if large {
+    if tries == 0 {
         load_65536(
             d,
             t,
@@ -222,7 +222,7 @@ fn load_more(
         )
     } else {
         load_more(
-            true,
+            tries - 1,
             d,
             t,
             opened,
@@ -280,7 +280,7 @@ pub fn load_opened(
         )
     } else {
         load_more(
-            false,
+            2,
             d,
             t,
             opened,
