@@ -3,7 +3,7 @@ from heads import HEADS
 S = INNER
 fa = fn_of(MIR, 'load_opened::load_opened')
 b = fa[5]; call0 = b[1]; cond = b[2][1]; tail = stmts(b[2][2])
-NAMES = {'load_opened::is_small': 'test', 'load_opened::load_64': 'one', 'load_opened::load_more': 'two'}
+NAMES = {'load_opened::is_small': 'test', 'load_functions::load_64': 'one', 'load_opened::load_more': 'two'}
 MIRT = locals_text(fa, ['abbrev locals : List Local', 'locals =']) + f'''
 
 abbrev tail : Body

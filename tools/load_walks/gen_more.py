@@ -4,7 +4,7 @@ S = MORE
 fa = fn_of(MIR, 'load_opened::load_more')
 ss = stmts(fa[5]); copied, outer_if, tail = ss[0], ss[1], ss[2:]
 es = stmts(outer_if[3]); call0, inner_if, back = es
-NAMES = {'load_opened::is_medium': '#is-medium', 'load_opened::load_2048': '#load-2048', 'load_opened::load_65536': '#load-65536', 'load_opened::load_more': '#load-more'}
+NAMES = {'load_opened::is_medium': '#is-medium', 'load_functions::load_2048': '#load-2048', 'load_functions::load_65536': '#load-65536', 'load_opened::load_more': '#load-more'}
 LA = [mty(l[1]) for l in W['lst'](fa[4])]
 En = ' ∷ '.join('(%s, l%s)' % (t, sub(k)) for k, t in enumerate(LA)) + ' ∷ []'
 c = Ctx(['Toks', 'Owns'])
@@ -229,15 +229,16 @@ unfolding code.load-more-routine tablesOf
     (code.load-more-unfolded 𝓤 H 𝓜 𝓡) (μ 𝓤 H (𝓖 .A) (givenOf 𝓤 H 𝓜 𝓖)) k
     (method 𝓤 H (𝓖 .A) (givenOf 𝓤 H 𝓜 𝓖) (tablesOf 𝓤 H 𝓜 (tables 𝓤 H 𝓜 𝓡 code.env))
     (cited 𝓤 H (TestAt 𝓤 H (𝓖 .A) (givenOf 𝓤 H 𝓜 𝓖) 2048) 𝓜 𝓡 code.env #is-medium is-medium-def.routine code.calls-load-opened·is-medium (is-medium-thm.met 𝓤 H 𝓜 𝓖 𝓡))
-    (cited 𝓤 H (LoadsAt 𝓤 H (𝓖 .A) (givenOf 𝓤 H 𝓜 𝓖) (AtMost 2048)) 𝓜 𝓡 code.env #load-2048 load-2048-def.routine code.calls-load-opened·load-2048 (load-2048-thm.met 𝓤 H 𝓜 𝓖 𝓡))
-    (cited 𝓤 H (LoadsAt 𝓤 H (𝓖 .A) (givenOf 𝓤 H 𝓜 𝓖) Open) 𝓜 𝓡 code.env #load-65536 load-65536-def.routine code.calls-load-opened·load-65536 (load-65536-thm.met 𝓤 H 𝓜 𝓖 𝓡))
+    (cited 𝓤 H (LoadsAt 𝓤 H (𝓖 .A) (givenOf 𝓤 H 𝓜 𝓖) (AtMost 2048)) 𝓜 𝓡 code.env #load-2048 load-2048-def.routine code.calls-load-functions·load-2048 (load-2048-thm.met 𝓤 H 𝓜 𝓖 𝓡))
+    (cited 𝓤 H (LoadsAt 𝓤 H (𝓖 .A) (givenOf 𝓤 H 𝓜 𝓖) Open) 𝓜 𝓡 code.env #load-65536 load-65536-def.routine code.calls-load-functions·load-65536 (load-65536-thm.met 𝓤 H 𝓜 𝓖 𝓡))
     k (λ y lt. smaller (μ 𝓤 H (𝓖 .A) (givenOf 𝓤 H 𝓜 𝓖) y) lt y refl)))
 '''
 P = 'use Rattle.load_opened.proofs.'
 MINE = []
 for g in ('is_medium', 'load_2048', 'load_65536'):
-    u = g.replace('_', '-')
+    u = g.replace('_', '-'); P = 'use Rattle.load_opened.proofs.' if g == 'is_medium' else 'use Rattle.load_functions.proofs.'
     MINE += [f'{P}{g}.Symbol as {u}-def', f'{P}{g}.Symbol.{{name as #{u}}}', f'{P}{g}.Met as {u}-thm']
+P = 'use Rattle.load_opened.proofs.'
 MINE += [P + 'load_more.Key.{name as #load-more}', P + '+load_more as cycle', P + '+load_more.Code as code']
 T = '-- `load_opened::load_more` meets its contract: a walk of its MIR, with a call of itself. The measure is how many tries are left. Assumes nothing.\n' + uses(body, [h for h in HEADS if ' as code' not in h]) + '\n' + '\n'.join(MINE) + '\n\n' + body
 os.makedirs(OUT + '/proofs/+load_more', exist_ok=True)

@@ -76,8 +76,10 @@ AtMost B d t o = Open d t o × (symbolsOf o ≤ B)
 '''
 def put(file, head, body, heads):
     open(OUT + '/proofs/' + file, 'w').write(head + uses(body, heads) + '\n\n' + body)
-heads = [h for h in HEADS if '.Outer' not in h and '.Choice' not in h]
-put('Outer.antt', '-- The outside of each function that loads what was opened: one contract, but for what it asks of that (`Asks`), and how a walk\'s end, at any function of this signature, meets it. Assumes `Given`.\n',
-    ATMOST + outer(INNER, FIRST, False), heads)
-put('OuterMore.antt', '-- The same of `load_more`, which has a count before the others and calls itself. Assumes `Given`.\n',
-    outer(MORE, 'load_more', True), [h.replace('proofs.proofs.' + FIRST + ' as load′', 'proofs.proofs.load_more as load′') for h in heads])
+heads = [h for h in HEADS if 'Outer' not in h and '.Choice' not in h]
+if CRATE == 'load_functions':
+    put('Outer.antt', '-- The outside of each function that loads what was opened: one contract, but for what it asks of that (`Asks`), and how a walk\'s end, at any function of this signature, meets it. Assumes `Given`.\n',
+        ATMOST + outer(INNER, FIRST, False), heads)
+else:
+    put('OuterMore.antt', '-- The outside of `load_more`, which has a count before the others and calls itself. Assumes `Given`.\n',
+        outer(MORE, 'load_more', True), [h.replace('use Rattle.load_functions.proofs.' + FIRST + ' as load′', 'use Rattle.load_opened.proofs.load_more as load′') for h in heads])

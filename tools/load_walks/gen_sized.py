@@ -1,7 +1,7 @@
 from common import *
 from heads import HEADS
 S = INNER
-fn = fn_of(MIR, 'load_opened::load_64'); SS = stmts(fn[5])
+fn = fn_of(MIR, 'load_functions::load_64'); SS = stmts(fn[5])
 NAMES = {'load_core::load_core': '#load-core', 'rows_functions::fill': '#fill'}
 MIRT = locals_text(fn, ['abbrev locals : ℕ → List Local', 'locals N ='])
 CUT = next(k for k, x in enumerate(SS) if x[0] == 'call') + 1
@@ -288,5 +288,5 @@ sized 𝓤 H A W mem run N room len says-N Asks enough 𝓣 known-core known-fil
     (λ {S.kqx} {S.gvars} asked.
     walk 𝓤 H A W mem run N room len says-N {S.kqx} {S.gvars} (enough _ _ opened asked .0) (enough _ _ opened asked .1) (𝓣 .C) (𝓣 .Λ) (fmOf 𝓤 H (W .laws) 𝓣) known-core known-fill (outer.Post 𝓤 H A W Asks {S.kqx}) (outer.exits 𝓤 H A W Asks {S.kqx}))
 '''
-T = '-- A function that loads what was opened with an array of N numbers, for every N: its MIR with the length left open, and a walk of it. Assumes `Given`.\n' + uses(body, HEADS) + '\n\n' + body
+T = '-- A function that loads what was opened with an array of N numbers, for every N: its MIR with the length left open, and a walk of it. Assumes `Given`.\n' + uses(body, [h for h in HEADS if 'load_opened' not in h]) + '\n\n' + body
 open(OUT + '/proofs/Sized.antt', 'w').write(T)

@@ -2,9 +2,9 @@ from common import *
 def sized(f, N, big, asks, enough, doc, opened):
     U = f.replace('_', '-'); lit = 'intBig' if big else 'int'; con = 'const-big 𝓤 H %d (lit< tt)' % N if big else 'const-int 𝓤 H %d tt' % N
     al = ['Open'] if asks == 'Open' else []
-    imp = {'Open': 'use Rattle.load_object.specs.Done.{Open, few-symbols}\nuse Rattle.load_opened.proofs.Scratch.{%s}\nuse Rattle.load_opened.proofs.Sized.{Core, Fill, sized}' % con.split()[0]}.get(asks,
-           'use Rattle.load_opened.proofs.Outer.{AtMost}\nuse Rattle.load_opened.proofs.Scratch.{%s}\nuse Rattle.load_opened.proofs.Sized.{Core, Fill, sized}' % con.split()[0])
-    return f'''-- `load_opened::{f}` meets its contract: `Sized.antt`'s walk at {N}{doc}.
+    imp = {'Open': 'use Rattle.load_object.specs.Done.{Open, few-symbols}\nuse Rattle.load_functions.proofs.Scratch.{%s}\nuse Rattle.load_functions.proofs.Sized.{Core, Fill, sized}' % con.split()[0]}.get(asks,
+           'use Rattle.load_functions.proofs.Outer.{AtMost}\nuse Rattle.load_functions.proofs.Scratch.{%s}\nuse Rattle.load_functions.proofs.Sized.{Core, Fill, sized}' % con.split()[0])
+    return f'''-- `load_functions::{f}` meets its contract: `Sized.antt`'s walk at {N}{doc}.
 use lib.Dec.{{lit<}}
 use mir.Syntax.{{w64, {lit}}}
 use contract.Running.{{givenOf, tables, tablesOf}}
@@ -19,10 +19,10 @@ use Rattle.load_core.proofs.load_core.Met as core-thm
 use Rattle.rows_functions.proofs.fill.Symbol as fill-def
 use Rattle.rows_functions.proofs.fill.Symbol.{{name as #fill}}
 use Rattle.rows_functions.proofs.fill.Met as fill-thm
-use Rattle.load_opened.proofs.{f}.Key.{{name as #{U}}}
-use Rattle.load_opened.proofs.{f} as load′
-use Rattle.load_opened.proofs.{f}.Statement as stated
-use Rattle.load_opened.proofs.{f}.Code as code
+use Rattle.load_functions.proofs.{f}.Key.{{name as #{U}}}
+use Rattle.load_functions.proofs.{f} as load′
+use Rattle.load_functions.proofs.{f}.Statement as stated
+use Rattle.load_functions.proofs.{f}.Code as code
 
 room : Room u32 {N}
 room = (lit< tt, lit< tt)

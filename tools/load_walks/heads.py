@@ -60,11 +60,11 @@ use Rattle.load_core.specs.Core.{open-deposit, deposit-outcome}
 use @SPECS.Loads.{Loads}
 use Rattle·@CRATE·proofs.proofs.Again.{LentAgain, lends-again, comes-back}
 use @SPECS.Shared.{shares-all}
-use Rattle·@CRATE·proofs.proofs.Outer as outer
-use Rattle·@CRATE·proofs.proofs.Outer.{AtMost}
-use Rattle·@CRATE·proofs.proofs.OuterMore as outer-more
-use Rattle·@CRATE·proofs.proofs.Choice.{most-of, testOf, TestAt, LoadsAt, asked, asks}
-use Rattle·@CRATE·proofs.proofs.load_more as more
+use @OUTER as outer
+use @OUTER.{AtMost}
+use Rattle.load_opened.proofs.OuterMore as outer-more
+use Rattle.load_opened.proofs.Choice.{most-of, testOf, TestAt, LoadsAt, asked, asks}
+use Rattle.load_opened.proofs.load_more as more
 use Rattle·@CRATE·proofs.proofs.Scratch.{Const, const, zeros, length-zeros, zeros-is, zeros-room, scratch-room}
 use @SPECS.Slot.{lends-array, array-room}
 use Rattle.model.proofs.Function as T
@@ -86,7 +86,7 @@ use Rattle.deposit.proofs.open.Symbol as open-def
 use Rattle.deposit.proofs.open.Symbol.{name as #open}
 use Rattle.deposit.proofs.open.Met as open-thm
 use Rattle.load_opened.proofs.is_small as small
-use Rattle·@CRATE·proofs.proofs.@FIRST as load′
+use @FIRST as load′
 use Rattle.load_opened.proofs.load_opened as whole′
 use Rattle.load_opened.proofs.load_opened.Symbol as whole-def
 use Rattle.load_opened.proofs.load_opened.Symbol.{name as #load-opened}
@@ -94,5 +94,5 @@ use Rattle.load_opened.proofs.load_opened.Met as whole-thm
 use Rattle.load.proofs.load.Key.{name as #load}
 use Rattle.load.proofs.load as f
 use Rattle.load.proofs.load.Statement as stated
-use Rattle.load.proofs.load.Code as code'''.replace('@CRATE', os.environ['CRATE']).replace('@FIRST', os.environ['FIRST']).replace(
-    '@SPECS', 'Rattle.load_opened.specs' if os.environ['CRATE'] == 'load_opened' else 'Rattle.load_opened.specs').split('\n')
+use Rattle.load.proofs.load.Code as code'''.replace('@CRATE', os.environ['CRATE']).replace('@FIRST', ('Rattle.load_functions.proofs.' if os.environ['CRATE'] == 'load_functions' else 'Rattle.load_functions.proofs.') + os.environ['FIRST']).replace('@OUTER', 'Rattle.load_functions.proofs.Outer' if os.environ['CRATE'] == 'load_functions' else 'Rattle.load_functions.proofs.Outer').replace(
+    '@SPECS', 'Rattle.load_functions.specs' if os.environ['CRATE'] == 'load_functions' else 'Rattle.load_functions.specs').split('\n')

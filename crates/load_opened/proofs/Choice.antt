@@ -36,8 +36,8 @@ use Rattle.model.specs.declared.Answer.{Answer}
 use Rattle.model.specs.declared.Function.{Function}
 use Rattle.object_view.specs.declared.Opened.{Opened}
 use Rattle.load_object.specs.Done.{Open, symbolsOf}
-use Rattle.load_opened.proofs.Outer as outer
-use Rattle.load_opened.proofs.Outer.{AtMost}
+use Rattle.load_functions.proofs.Outer as outer
+use Rattle.load_functions.proofs.Outer.{AtMost}
 use Rattle.load_opened.proofs.OuterMore as outer-more
 use Rattle.load_opened.proofs.load_more as more
 use Rattle.model.proofs.Function as T
@@ -47,7 +47,7 @@ use Rattle.model.proofs.Answer.Laws as F′
 use Rattle.object_view.proofs.Opened as O
 use Rattle.object_view.proofs.Opened.Laws as O′
 use Rattle.load_opened.proofs.is_small as small
-use Rattle.load_opened.proofs.load_64 as load′
+use Rattle.load_functions.proofs.load_64 as load′
 
 abbrev locals : List Local
 locals =

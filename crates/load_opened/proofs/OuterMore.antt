@@ -1,4 +1,4 @@
--- The same of `load_more`, which has a count before the others and calls itself. Assumes `Given`.
+-- The outside of `load_more`, which has a count before the others and calls itself. Assumes `Given`.
 use mathlib.Core.Path.{_≡_, refl}
 use mathlib.Core.Bool.{Bool}
 use Prim.Native.Nat.{ℕ, _^_, _<_}
@@ -32,7 +32,7 @@ use Rattle.model.specs.declared.Function.{Function}
 use Rattle.model.specs.Lent.{outcomeIn}
 use Rattle.object_view.specs.declared.Opened.{Opened}
 use Rattle.load_object.specs.Done.{lentRoom, verdictIn}
-use Rattle.load_opened.specs.Loads.{Loads}
+use Rattle.load_functions.specs.Loads.{Loads}
 use Rattle.model.proofs.Function as T
 use Rattle.model.proofs.Answer as F
 use Rattle.object_view.proofs.Opened as O

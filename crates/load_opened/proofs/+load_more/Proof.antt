@@ -42,8 +42,8 @@ use Rattle.model.specs.declared.Answer.{Answer}
 use Rattle.model.specs.declared.Function.{Function}
 use Rattle.object_view.specs.declared.Opened.{Opened}
 use Rattle.load_object.specs.Done.{Open, symbolsOf}
-use Rattle.load_opened.proofs.Outer as outer
-use Rattle.load_opened.proofs.Outer.{AtMost}
+use Rattle.load_functions.proofs.Outer as outer
+use Rattle.load_functions.proofs.Outer.{AtMost}
 use Rattle.load_opened.proofs.OuterMore as outer-more
 use Rattle.load_opened.proofs.Choice.{most-of, testOf, TestAt, LoadsAt, asked, asks}
 use Rattle.load_opened.proofs.load_more as more
@@ -54,16 +54,16 @@ use Rattle.model.proofs.Answer.Laws as F′
 use Rattle.object_view.proofs.Opened as O
 use Rattle.object_view.proofs.Opened.Laws as O′
 use Rattle.load_opened.proofs.is_small as small
-use Rattle.load_opened.proofs.load_64 as load′
+use Rattle.load_functions.proofs.load_64 as load′
 use Rattle.load_opened.proofs.is_medium.Symbol as is-medium-def
 use Rattle.load_opened.proofs.is_medium.Symbol.{name as #is-medium}
 use Rattle.load_opened.proofs.is_medium.Met as is-medium-thm
-use Rattle.load_opened.proofs.load_2048.Symbol as load-2048-def
-use Rattle.load_opened.proofs.load_2048.Symbol.{name as #load-2048}
-use Rattle.load_opened.proofs.load_2048.Met as load-2048-thm
-use Rattle.load_opened.proofs.load_65536.Symbol as load-65536-def
-use Rattle.load_opened.proofs.load_65536.Symbol.{name as #load-65536}
-use Rattle.load_opened.proofs.load_65536.Met as load-65536-thm
+use Rattle.load_functions.proofs.load_2048.Symbol as load-2048-def
+use Rattle.load_functions.proofs.load_2048.Symbol.{name as #load-2048}
+use Rattle.load_functions.proofs.load_2048.Met as load-2048-thm
+use Rattle.load_functions.proofs.load_65536.Symbol as load-65536-def
+use Rattle.load_functions.proofs.load_65536.Symbol.{name as #load-65536}
+use Rattle.load_functions.proofs.load_65536.Met as load-65536-thm
 use Rattle.load_opened.proofs.load_more.Key.{name as #load-more}
 use Rattle.load_opened.proofs.+load_more as cycle
 use Rattle.load_opened.proofs.+load_more.Code as code
@@ -485,6 +485,6 @@ unfolding code.load-more-routine tablesOf
     (code.load-more-unfolded 𝓤 H 𝓜 𝓡) (μ 𝓤 H (𝓖 .A) (givenOf 𝓤 H 𝓜 𝓖)) k
     (method 𝓤 H (𝓖 .A) (givenOf 𝓤 H 𝓜 𝓖) (tablesOf 𝓤 H 𝓜 (tables 𝓤 H 𝓜 𝓡 code.env))
     (cited 𝓤 H (TestAt 𝓤 H (𝓖 .A) (givenOf 𝓤 H 𝓜 𝓖) 2048) 𝓜 𝓡 code.env #is-medium is-medium-def.routine code.calls-load-opened·is-medium (is-medium-thm.met 𝓤 H 𝓜 𝓖 𝓡))
-    (cited 𝓤 H (LoadsAt 𝓤 H (𝓖 .A) (givenOf 𝓤 H 𝓜 𝓖) (AtMost 2048)) 𝓜 𝓡 code.env #load-2048 load-2048-def.routine code.calls-load-opened·load-2048 (load-2048-thm.met 𝓤 H 𝓜 𝓖 𝓡))
-    (cited 𝓤 H (LoadsAt 𝓤 H (𝓖 .A) (givenOf 𝓤 H 𝓜 𝓖) Open) 𝓜 𝓡 code.env #load-65536 load-65536-def.routine code.calls-load-opened·load-65536 (load-65536-thm.met 𝓤 H 𝓜 𝓖 𝓡))
+    (cited 𝓤 H (LoadsAt 𝓤 H (𝓖 .A) (givenOf 𝓤 H 𝓜 𝓖) (AtMost 2048)) 𝓜 𝓡 code.env #load-2048 load-2048-def.routine code.calls-load-functions·load-2048 (load-2048-thm.met 𝓤 H 𝓜 𝓖 𝓡))
+    (cited 𝓤 H (LoadsAt 𝓤 H (𝓖 .A) (givenOf 𝓤 H 𝓜 𝓖) Open) 𝓜 𝓡 code.env #load-65536 load-65536-def.routine code.calls-load-functions·load-65536 (load-65536-thm.met 𝓤 H 𝓜 𝓖 𝓡))
     k (λ y lt. smaller (μ 𝓤 H (𝓖 .A) (givenOf 𝓤 H 𝓜 𝓖) y) lt y refl)))

@@ -45,13 +45,12 @@ use Rattle.rows_functions.specs.declared.Rows.{Rows}
 use Rattle.rows_functions.specs.Rows.{ReadableRows, rowsMade}
 use Rattle.load_object.specs.declared.Loaded.{Loaded}
 use Rattle.load_object.specs.Done.{lentRoom, Open, symbolsOf, verdictIn, CoreDone}
-use Rattle.load_opened.specs.Loads.{Loads}
-use Rattle.load_opened.proofs.Again.{LentAgain, lends-again, comes-back}
-use Rattle.load_opened.specs.Shared.{shares-all}
-use Rattle.load_opened.proofs.Outer as outer
-use Rattle.load_opened.proofs.Choice.{asked}
-use Rattle.load_opened.proofs.Scratch.{Const, const, zeros, length-zeros, zeros-is, zeros-room, scratch-room}
-use Rattle.load_opened.specs.Slot.{lends-array}
+use Rattle.load_functions.specs.Loads.{Loads}
+use Rattle.load_functions.proofs.Again.{LentAgain, lends-again, comes-back}
+use Rattle.load_functions.specs.Shared.{shares-all}
+use Rattle.load_functions.proofs.Outer as outer
+use Rattle.load_functions.proofs.Scratch.{Const, const, zeros, length-zeros, zeros-is, zeros-room, scratch-room}
+use Rattle.load_functions.specs.Slot.{lends-array}
 use Rattle.model.proofs.Function as T
 use Rattle.model.proofs.Function.Laws as T′
 use Rattle.model.proofs.Answer as F
@@ -66,7 +65,7 @@ use Rattle.load_core.proofs.load_core as core
 use Rattle.load_core.proofs.load_core.Symbol.{name as #load-core}
 use Rattle.rows_functions.proofs.fill as fill
 use Rattle.rows_functions.proofs.fill.Symbol.{name as #fill}
-use Rattle.load_opened.proofs.load_64 as load′
+use Rattle.load_functions.proofs.load_64 as load′
 
 abbrev locals : ℕ → List Local
 locals N =

@@ -24,7 +24,7 @@ use denote.Builtin.{u32}
 use denote.Plain.{uint-vals, uint-tells, uint-makes}
 use denote.Slice.{Room, finally}
 use denote.Lend.{Held}
-use Rattle.load_opened.specs.Slot.{array-room}
+use Rattle.load_functions.specs.Slot.{array-room}
 
 module _ {M : Type 1} (𝓤 : URA M) (H : Heap 𝓤) where
   abbrev pub Const : Operand → ℕ → Type 2

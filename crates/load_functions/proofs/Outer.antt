@@ -31,12 +31,12 @@ use Rattle.model.specs.declared.Function.{Function}
 use Rattle.model.specs.Lent.{outcomeIn}
 use Rattle.object_view.specs.declared.Opened.{Opened}
 use Rattle.load_object.specs.Done.{lentRoom, Open, symbolsOf, verdictIn}
-use Rattle.load_opened.specs.Loads.{Loads}
+use Rattle.load_functions.specs.Loads.{Loads}
 use Rattle.model.proofs.Function as T
 use Rattle.model.proofs.Answer as F
 use Rattle.object_view.proofs.Opened as O
 use Rattle.object_view.proofs.Opened.Laws as O′
-use Rattle.load_opened.proofs.load_64 as load′
+use Rattle.load_functions.proofs.load_64 as load′
 
 -- what was opened can be read, and has at most B symbols
 abbrev pub AtMost : ℕ → List ℕ → List ℕ → Opened → Type 0

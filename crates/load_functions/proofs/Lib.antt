@@ -1,0 +1,4 @@
+pub mod Again
+pub mod Outer
+pub mod Scratch
+pub mod Sized
