@@ -28,13 +28,11 @@ use model::Refusal;
 use model::SectionRecord;
 use object::Checked;
 use object_view::View;
+use object_view::is_no_section;
 use parse_first::LicenseAt;
 use parse_text::ParsedText;
 use record_keys::By;
 use stream::size;
-
-// A symbol's section, where it has none.
-const NO_SECTION: u32 = 0xFFFF_FFFF;
 
 // How many record numbers there are for each table; where the licence stands, and the version.
 pub struct Counts {
@@ -65,9 +63,9 @@ fn group_of(d: &[u8], t: &[u32], v: View, s: SectionRecord, order: &[u32], from:
         ⌝ }
     ensures { λ r. ⌜ GroupOf (now (d .entry)) (now (t .entry)) v s (now (order .entry)) from (r .lo) (r .hi) ⌝ }
 {
-    let k = s.index.0;
+    let k = s.index;
     let lo = symbol_groups::group_start(d, t, v, order, from, k);
-    if k == NO_SECTION {
+    if is_no_section(k) {
         return Group { lo: lo, hi: lo };
     }
     let hi = symbol_groups::group_end(d, t, v, order, lo, k);
