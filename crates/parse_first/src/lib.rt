@@ -27,6 +27,8 @@ use model::SymbolIndex;
 use object::Checked;
 use object_view::View;
 use object_view::is_no_symbol;
+use records::Cursor;
+use records::Step;
 use records::data_place;
 use records::name_at;
 use stream::size;
@@ -93,17 +95,22 @@ fn with_section(d: &[u8], t: &[u32], v: View, i: u32, found: Named) -> Named
 pub fn find_named(d: &[u8], t: &[u32], v: View) -> Named
     ensures { λ r. ⌜ r ≡ namedIn (now (d .entry)) (now (t .entry)) v ⌝ }
 {
-    let end = v.sections;
     let mut found = Named {
         license: Found::Nothing,
         version: Found::Nothing,
     };
-    let mut i: u32 = 0;
-    while i < end {
-        found = with_section(d, t, v, i, found);
-        i += 1;
+    let mut c = Cursor::new(v.sections);
+    loop {
+        match c.next() {
+            Step::Record(i, next) => {
+                found = with_section(d, t, v, i, found);
+                c = next;
+            }
+            Step::End => {
+                return found;
+            }
+        }
     }
-    found
 }
 
 fn nearer(symbol: SymbolIndex, k: u32, nearest: u32) -> u32
