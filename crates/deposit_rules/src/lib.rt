@@ -9,7 +9,9 @@ ghost use Rattle.deposit_rules.specs.Checked.{checkedSections};
 use model::Extent;
 use model::Head;
 use model::RelocationRecord;
+use model::SectionIndex;
 use model::SectionRecord;
+use model::SymbolIndex;
 use model::SymbolRecord;
 use records::Cursor;
 use records::Step;
@@ -238,18 +240,19 @@ pub fn symbols_ok(d: &[u8], h: Head, clean: bool) -> bool
     ensures { λ r. ⌜ r ≡ symbolsOk (now (d .entry)) h ⌝ }
 {
     let mut c = Cursor::new(h.symbols);
-    let mut last: u32 = 0;
+    let mut last = SymbolIndex(0);
     loop {
         match c.next() {
             Step::Record(i, next) => {
                 let s = deposit_symbol(d, h, i);
-                if s.index.0 <= last {
+                let index = s.index;
+                if index.0 <= last.0 {
                     return false;
                 }
                 if !symbol_ok(d, h, clean, s) {
                     return false;
                 }
-                last = s.index.0;
+                last = index;
                 c = next;
             }
             Step::End => {
@@ -271,20 +274,21 @@ pub fn check_sections(d: &[u8], h: Head, clean: bool) -> Checked
     ensures { λ r. ⌜ r ≡ checkedSections (now (d .entry)) h ⌝ }
 {
     let mut c = Cursor::new(h.sections);
-    let mut last: u32 = 0;
+    let mut last = SectionIndex(0);
     let mut btf = false;
     loop {
         match c.next() {
             Step::Record(i, next) => {
                 let s = deposit_section(d, i);
-                if s.index.0 <= last {
+                let index = s.index;
+                if index.0 <= last.0 {
                     return Checked::Broken;
                 }
                 if !section_ok(d, h, clean, s) {
                     return Checked::Broken;
                 }
                 btf = btf | is_btf(d, h, s);
-                last = s.index.0;
+                last = index;
                 c = next;
             }
             Step::End => {

@@ -16,6 +16,7 @@ use Rattle.model.specs.Bytes.{part}
 use Rattle.model.specs.Deposit.{extent}
 use Rattle.model.specs.LicenceVersion.{number}
 use Rattle.object_view.specs.declared.View.{View}
+use Rattle.object_view.specs.NoIndex.{noIndex, isNone}
 
 -- the number of n bytes at p, 0 where the file ends before them
 unfoldable pub numberAt : Endianness → List ℕ → ℕ → ℕ → ℕ
@@ -35,24 +36,24 @@ unfoldable pub dataRange : ℕ → ℕ → ℕ → Extent
 dataRange sort at n = cond (eqb sort 8 || eqb n 0) (extent 0 0) (extent (at % 4294967296) (n % 4294967296))
 
 -- 'section 0 or a reserved one is none'
-unfoldable pub sectionOrNone : ℕ → ℕ
-sectionOrNone n = cond (eqb n 0 || leb 65280 n) 4294967295 n
+unfoldable pub sectionOrNone : ℕ → SectionIndex
+sectionOrNone n = record { 0 = cond (eqb n 0 || leb 65280 n) noIndex n }
 
 -- 'Symbol type 2 is text and 1 is data'
 unfoldable pub kindOf : ℕ → ℕ
 kindOf info = cond (eqb (info % 16) 2) 1 (cond (eqb (info % 16) 1) 2 0)
 
 -- 'a definition has one of those types and a section'
-unfoldable pub definitionOf : ℕ → ℕ → ℕ
-definitionOf kind section = cond (eqb kind 0 || eqb section 4294967295) 0 1
+unfoldable pub definitionOf : ℕ → SectionIndex → ℕ
+definitionOf kind section = cond (eqb kind 0 || isNone (section .0)) 0 1
 
 -- 'relocation symbol 0 is no symbol'
-unfoldable pub symbolOrNone : ℕ → ℕ
-symbolOrNone n = cond (eqb n 0) 4294967295 n
+unfoldable pub symbolOrNone : ℕ → SymbolIndex
+symbolOrNone n = record { 0 = cond (eqb n 0) noIndex n }
 
 -- 'the high 32 bits are the symbol and the low 32 the type'
 abbrev pub targetOf : ℕ → SymbolIndex
-targetOf info = record { 0 = symbolOrNone (info / 4294967296) }
+targetOf info = symbolOrNone (info / 4294967296)
 
 -- 'relocation type 1 has size 64, 10 has 32, others 0'
 unfoldable pub widthOf : ℕ → ℕ
@@ -74,7 +75,7 @@ module _ (d : List ℕ) (v : View) where
   entryAt i = v .at .symbols + 24 * i
 
   unfoldable pub symbolSectionAt : ℕ → SectionIndex
-  symbolSectionAt i = record { 0 = sectionOrNone (num (entryAt i + 6) 2) }
+  symbolSectionAt i = sectionOrNone (num (entryAt i + 6) 2)
 
   unfoldable pub symbolAddressAt : ℕ → ℕ
   symbolAddressAt i = num (entryAt i + 8) 8
@@ -116,7 +117,7 @@ module _ (d t : List ℕ) (v : View) where
         address = symbolAddressAt d v i;
         size = num d v (entryAt d v i + 16) 8;
         kind = kindOf (getD d (entryAt d v i + 4) 0);
-        definition = definitionOf (kindOf (getD d (entryAt d v i + 4) 0)) (symbolSectionAt d v i .0);
+        definition = definitionOf (kindOf (getD d (entryAt d v i + 4) 0)) (symbolSectionAt d v i);
         reserved = 0;
       }
 

@@ -14,7 +14,9 @@ use model::SectionIndex;
 use model::SectionRecord;
 use model::SymbolIndex;
 use model::SymbolRecord;
+use object_view::NO_INDEX;
 use object_view::View;
+use object_view::is_no_section;
 use stream::four;
 use stream::from_le_bytes;
 use stream::size;
@@ -182,16 +184,16 @@ pub fn section(d: &[u8], t: &[u32], v: View, i: u32) -> SectionRecord
     }
 }
 
-fn section_or_none(shndx: u32) -> u32
+fn section_or_none(shndx: u32) -> SectionIndex
     ensures { λ r. ⌜ r ≡ sectionOrNone shndx ⌝ }
 {
     if shndx == 0 {
-        return 0xFFFFFFFF;
+        return SectionIndex(NO_INDEX);
     }
     if 65280 <= shndx {
-        return 0xFFFFFFFF;
+        return SectionIndex(NO_INDEX);
     }
-    shndx
+    SectionIndex(shndx)
 }
 
 fn kind(info: u8) -> u8
@@ -206,13 +208,13 @@ fn kind(info: u8) -> u8
     0
 }
 
-fn definition(kind: u8, section: u32) -> u8
+fn definition(kind: u8, section: SectionIndex) -> u8
     ensures { λ r. ⌜ r ≡ definitionOf kind section ⌝ }
 {
     if kind == 0 {
         return 0;
     }
-    if section == 0xFFFFFFFF {
+    if is_no_section(section) {
         return 0;
     }
     1
@@ -223,7 +225,7 @@ pub fn symbol_section(d: &[u8], v: View, i: u32) -> SectionIndex
 {
     let order = v.order;
     let p = size(v.at.symbols) + 24 * size(i);
-    SectionIndex(section_or_none(u16_at(d, order, p + 6)))
+    section_or_none(u16_at(d, order, p + 6))
 }
 
 pub fn symbol_name(d: &[u8], t: &[u32], v: View, i: u32) -> Extent
@@ -259,15 +261,19 @@ pub fn symbol(d: &[u8], t: &[u32], v: View, i: u32) -> SymbolRecord
         address: symbol_address(d, v, i),
         size: u64_at(d, order, p + 16),
         kind,
-        definition: definition(kind, section.0),
+        definition: definition(kind, section),
         reserved: 0,
     }
 }
 
-fn symbol_or_none(x: u32) -> u32
+fn symbol_or_none(x: u32) -> SymbolIndex
     ensures { λ r. ⌜ r ≡ symbolOrNone x ⌝ }
 {
-    if x == 0 { 0xFFFFFFFF } else { x }
+    if x == 0 {
+        SymbolIndex(NO_INDEX)
+    } else {
+        SymbolIndex(x)
+    }
 }
 
 fn width(sort: u32) -> u8
@@ -307,7 +313,7 @@ fn relocation_info(d: &[u8], t: &[u32], v: View, k: u32) -> u64
 fn target_symbol(info: u64) -> SymbolIndex
     ensures { λ r. ⌜ r ≡ targetOf info ⌝ }
 {
-    SymbolIndex(symbol_or_none((info / 4294967296) as u32))
+    symbol_or_none((info / 4294967296) as u32)
 }
 
 pub fn relocation_symbol(d: &[u8], t: &[u32], v: View, k: u32) -> SymbolIndex

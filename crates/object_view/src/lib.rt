@@ -1,6 +1,10 @@
-// How an opened object lies in the bytes that were given.
+// How an opened object lies in the bytes that were given, and which index its records have for none.
+ghost use mathlib.Core.Path.{_≡_};
+ghost use Rattle.object_view.specs.NoIndex.{isNone};
 use model::Endianness;
 use model::Refusal;
+use model::SectionIndex;
+use model::SymbolIndex;
 
 // What was given: a deposit's blocks, or an ELF file.
 pub enum Form {
@@ -38,4 +42,19 @@ pub struct View {
 pub enum Opened {
     View(View),
     Refused(Refusal),
+}
+
+// A symbol's section where it has none, and a relocation's symbol.
+pub const NO_INDEX: u32 = 0xFFFF_FFFF;
+
+pub fn is_no_section(index: SectionIndex) -> bool
+    ensures { λ r. ⌜ r ≡ isNone (index .0) ⌝ }
+{
+    index.0 == NO_INDEX
+}
+
+pub fn is_no_symbol(index: SymbolIndex) -> bool
+    ensures { λ r. ⌜ r ≡ isNone (index .0) ⌝ }
+{
+    index.0 == NO_INDEX
 }

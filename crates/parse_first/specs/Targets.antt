@@ -7,12 +7,13 @@ use Prim.Native.Nat.{ℕ, zero, suc, _+_, _-_, _<_, _≤_}
 use native.Mathlib.Omega.{arith}
 use native.Mathlib.Nat.{not-suc-le-zero, le-of-suc-le-suc}
 use borrow.Author.Tests.{lt-ltb, le-ltb}
-use lib.Dec.{eqb, ltb}
+use lib.Dec.{ltb}
 use lib.ListN.{length, getD, take, drop, set, length-append, take-append-drop, List·getD-append}
 use lib.Seq.{take-suc, length-take-le, set-at}
 use Rattle.lists.specs.Tab.{tab, tab-none, tab-ext, length-tab, getD-tab}
 use Rattle.model.specs.declared.Extent.{Extent}
 use Rattle.object_view.specs.declared.View.{View}
+use Rattle.object_view.specs.NoIndex.{isNone}
 use Rattle.model.specs.declared.SectionRecord.{SectionRecord}
 use Rattle.model.specs.Bytes.{isSome}
 use Rattle.model.specs.Refusals.{untargeted}
@@ -139,9 +140,9 @@ module _ (d t : List ℕ) (v : View) where
   }
 
   -- told by its record: 'u64 offset, u32 symbol (0xFFFFFFFF: target is no symbol)'
-  no-target : (k : ℕ) → noTarget k ≡ eqb (relocationAt d t v k .symbol .0) 0xFFFFFFFF
+  no-target : (k : ℕ) → noTarget k ≡ isNone (relocationAt d t v k .symbol .0)
   unfolding noTarget relocIn relocOf
-  no-target k = go (eqb (relocationAt d t v k .symbol .0) 0xFFFFFFFF)
+  no-target k = go (isNone (relocationAt d t v k .symbol .0))
     where
       go : (b : Bool) → not (isSome (cond b none (some (relocationAt d t v k .symbol)))) ≡ b
       go true = refl
@@ -153,7 +154,7 @@ module _ (d t : List ℕ) (v : View) where
   next-end = nearest-end noTarget (v .relocations)
 
   pub next-before : (k : ℕ) → 0 < k → k ≤ v .relocations
-      → nextUntargeted (k - 1) ≡ cond (eqb (relocationAt d t v (k - 1) .symbol .0) 0xFFFFFFFF) (k - 1) (nextUntargeted k)
+      → nextUntargeted (k - 1) ≡ cond (isNone (relocationAt d t v (k - 1) .symbol .0)) (k - 1) (nextUntargeted k)
   unfolding nextUntargeted
   next-before k g l = nearest-before noTarget (v .relocations) k g l ∙ ap (λ b. cond b (k - 1) (nearest noTarget (v .relocations) k)) (no-target (k - 1))
 

@@ -4,13 +4,13 @@ ghost use mathlib.Core.Bool.{cond};
 ghost use mathlib.Core.List.{_++_};
 ghost use mathlib.Core.Option.{none};
 ghost use Prim.Native.Nat.{_+_, _≤_};
-ghost use lib.Dec.{eqb};
 ghost use lib.ListN.{length, drop};
 ghost use Rattle.lists.specs.Tab.{tab};
 ghost use Rattle.model.specs.Bytes.{same};
 ghost use Rattle.model.specs.LicenceVersion.{parseLicense, parseVersion};
 ghost use Rattle.model.specs.Refusals.{licenceRefusal, versionRefusal};
 ghost use Rattle.model.specs.Contents.{versionOf};
+ghost use Rattle.object_view.specs.NoIndex.{isNone};
 ghost use Rattle.records.specs.Readable.{Readable};
 ghost use Rattle.records.specs.View.{nameIn};
 ghost use Rattle.object.specs.Checked.{checkedOf};
@@ -23,14 +23,15 @@ use model::KernelVersion;
 use model::ParsedLicense;
 use model::ParsedVersion;
 use model::SectionRecord;
+use model::SymbolIndex;
 use object::Checked;
 use object_view::View;
+use object_view::is_no_symbol;
+use records::Cursor;
+use records::Step;
 use records::data_place;
 use records::name_at;
 use stream::size;
-
-// A relocation's symbol, where its target is none.
-const NO_SYMBOL: u32 = 0xFFFF_FFFF;
 
 pub enum Found {
     At(u32),
@@ -94,23 +95,28 @@ fn with_section(d: &[u8], t: &[u32], v: View, i: u32, found: Named) -> Named
 pub fn find_named(d: &[u8], t: &[u32], v: View) -> Named
     ensures { λ r. ⌜ r ≡ namedIn (now (d .entry)) (now (t .entry)) v ⌝ }
 {
-    let end = v.sections;
     let mut found = Named {
         license: Found::Nothing,
         version: Found::Nothing,
     };
-    let mut i: u32 = 0;
-    while i < end {
-        found = with_section(d, t, v, i, found);
-        i += 1;
+    let mut c = Cursor::new(v.sections);
+    loop {
+        match c.next() {
+            Step::Record(i, next) => {
+                found = with_section(d, t, v, i, found);
+                c = next;
+            }
+            Step::End => {
+                return found;
+            }
+        }
     }
-    found
 }
 
-fn nearer(symbol: u32, k: u32, nearest: u32) -> u32
-    ensures { λ r. ⌜ r ≡ cond (eqb symbol 0xFFFFFFFF) k nearest ⌝ }
+fn nearer(symbol: SymbolIndex, k: u32, nearest: u32) -> u32
+    ensures { λ r. ⌜ r ≡ cond (isNone (symbol .0)) k nearest ⌝ }
 {
-    if symbol == NO_SYMBOL { k } else { nearest }
+    if is_no_symbol(symbol) { k } else { nearest }
 }
 
 // For each relocation the nearest one, from it on, that has no symbol as target; their number, if there is none.
@@ -126,7 +132,7 @@ pub fn next_untargeted(d: &[u8], t: &[u32], v: View, next: &mut [u32])
     let mut nearest = k;
     while k > 0 {
         k -= 1;
-        nearest = nearer(records::relocation_symbol(d, t, v, k).0, k, nearest);
+        nearest = nearer(records::relocation_symbol(d, t, v, k), k, nearest);
         let i = size(k);
         next[i] = nearest;
     }

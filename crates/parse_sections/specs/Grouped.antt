@@ -12,6 +12,7 @@ use lib.Seq.{slice, length-slice, length-take-le, take-add, take-all, drop-at}
 use Rattle.lists.specs.Slice.{slice-none}
 use Rattle.lists.specs.Tab.{tab, length-tab}
 use Rattle.object_view.specs.declared.View.{View}
+use Rattle.object_view.specs.NoIndex.{noIndex, isNone}
 use Rattle.model.specs.declared.SectionIndex.{SectionIndex}
 use Rattle.model.specs.declared.SectionRecord.{SectionRecord}
 use Rattle.model.specs.Bytes.{keep}
@@ -78,20 +79,20 @@ module _ (d t : List ℕ) (v : View) where
   all-symbols order e = ap length e ∙ rw (length-sorted, length-tab)
 
   -- no symbol lies in a section of the index that stands for none
-  no-members : (s : SectionRecord) → s .index .0 ≡ 4294967295 → membersIn d t v s ≡ []
+  no-members : (s : SectionRecord) → isNone (s .index .0) ≡ true → membersIn d t v s ≡ []
   unfolding members sectionFrom symbolFrom
   no-members s e = keep-ext _ (λ j. false) (upTo (v .symbols)) (λ j. out (symbolAt d t v j .section)) ∙ none-kept (upTo (v .symbols))
     where
-      go : (i : SectionIndex) (b : Bool) → eqb (i .0) 4294967295 ≡ b → liesIn (s .index) (cond b none (some i)) ≡ false
+      go : (i : SectionIndex) (b : Bool) → isNone (i .0) ≡ b → liesIn (s .index) (cond b none (some i)) ≡ false
       go i true q = refl
-      go i false q = ne-eqb (s .index .0) (i .0) (λ r. eqb-false (i .0) 4294967295 q (sym r ∙ e))
+      go i false q = ne-eqb (s .index .0) (i .0) (λ r. eqb-false (i .0) noIndex q (sym r ∙ eqb-true (s .index .0) noIndex e))
 
       out : (i : SectionIndex) → liesIn (s .index) (unlessNone (i .0) i) ≡ false
-      out i = go i (eqb (i .0) 4294967295) refl
+      out i = go i (isNone (i .0)) refl
 
   module _ (s : SectionRecord) (order : List ℕ) (from lo : ℕ) (e : order ≡ sorted (bySection (symbolIn d t v)) (upTo (v .symbols)))
       (p : Passed order from (s .index .0)) (a : Start d t v order from (s .index .0) lo) where
-    pub group-none : s .index .0 ≡ 4294967295 → GroupOf s order from lo lo
+    pub group-none : isNone (s .index .0) ≡ true → GroupOf s order from lo lo
     group-none q =
         record {
           after = a .after;
@@ -101,7 +102,7 @@ module _ (d t : List ℕ) (v : View) where
           passed = λ k l. none-passed key order (s .index .0) k from lo (omega arith) (a .after) p (a .below);
         }
 
-    pub group-some : (hi : ℕ) → (s .index .0 ≡ 4294967295 → ⊥) → End d t v order lo (s .index .0) hi → GroupOf s order from lo hi
+    pub group-some : (hi : ℕ) → isNone (s .index .0) ≡ false → End d t v order lo (s .index .0) hi → GroupOf s order from lo hi
     unfolding sectionFrom
     group-some hi q b =
         let c = section-climbs d t v order e in
@@ -110,7 +111,7 @@ module _ (d t : List ℕ) (v : View) where
         let r : keep (λ j. eqb (s .index .0) (key j)) order ≡ keep (λ j. eqb (s .index .0) (rawSection (symbolIn d t v j))) order =
         keep-ext _ _ order (λ j. ap (eqb (s .index .0)) (sym (raw-is d t v (symbolAt d t v j)))) in
         let m : keep (λ j. eqb (s .index .0) (rawSection (symbolIn d t v j))) order ≡ membersIn d t v s =
-        rw e (members-group (v .order) (tab (sectionIn d t v) (v .sections)) (symbolIn d t v) (v .symbols) (sectionFrom d t v s) q) in
+        rw e (members-group (v .order) (tab (sectionIn d t v) (v .sections)) (symbolIn d t v) (v .symbols) (sectionFrom d t v s) (eqb-false (s .index .0) noIndex q)) in
         record {
           after = a .after;
           upward = b .after;
@@ -133,7 +134,7 @@ module _ (d t : List ℕ) (v : View) where
     unfolding sectionFrom
     index-is = refl
 
-    text-some : (sec .index .0 ≡ 4294967295 → ⊥) → keep (λ j. isDefinedText (symbolIn d t v j)) (sorted (byPlace (symbolIn d t v)) (membersIn d t v s)) ≡ textIn d t v sec
+    text-some : (sec .index .0 ≡ noIndex → ⊥) → keep (λ j. isDefinedText (symbolIn d t v j)) (sorted (byPlace (symbolIn d t v)) (membersIn d t v s)) ≡ textIn d t v sec
     text-some q =
         let E = v .order in
         let ss = tab (sectionIn d t v) (v .sections) in
@@ -143,10 +144,10 @@ module _ (d t : List ℕ) (v : View) where
         ∙ ap (keep (λ j. isDefinedText (at j))) (sym (keep-of-sorted (byPlace at) o (λ j. eqb (sec .index .0) (rawSection (at j))) (upTo (v .symbols))))
         ∙ text-group E ss at (v .symbols) sec q
 
-    text-any : (b : Bool) → eqb (s .index .0) 4294967295 ≡ b → keep (λ j. isDefinedText (symbolIn d t v j)) (sorted (byPlace (symbolIn d t v)) (membersIn d t v s)) ≡ textIn d t v sec
+    text-any : (b : Bool) → isNone (s .index .0) ≡ b → keep (λ j. isDefinedText (symbolIn d t v j)) (sorted (byPlace (symbolIn d t v)) (membersIn d t v s)) ≡ textIn d t v sec
     unfolding keep sorted
-    text-any true q = let e = no-members s (eqb-true (s .index .0) 4294967295 q) in ap (λ l. keep (λ j. isDefinedText (symbolIn d t v j)) (sorted (byPlace (symbolIn d t v)) l)) e ∙ text-none e
-    text-any false q = text-some (λ r. eqb-false (s .index .0) 4294967295 q (sym index-is ∙ r))
+    text-any true q = let e = no-members s q in ap (λ l. keep (λ j. isDefinedText (symbolIn d t v j)) (sorted (byPlace (symbolIn d t v)) l)) e ∙ text-none e
+    text-any false q = text-some (λ r. eqb-false (s .index .0) noIndex q (sym index-is ∙ r))
 
     -- a copy of the group, sorted by address
     pub text-ready : (order y : List ℕ) (lo hi : ℕ) → slice lo hi order ≡ membersIn d t v s → hi ≤ length order
@@ -155,4 +156,4 @@ module _ (d t : List ℕ) (v : View) where
     text-ready order y lo hi g w q =
         let l : length y ≡ hi - lo = ap length q ∙ rw (length-sorted, length-slice lo hi order w) in
         ap (keep (λ j. isDefinedText (symbolIn d t v j))) (take-all (hi - lo) y (omega arith) ∙ q ∙ (λ k. sorted (byKey (place-keys d t v k)) (g k)))
-        ∙ text-any (eqb (s .index .0) 4294967295) refl
+        ∙ text-any (isNone (s .index .0)) refl

@@ -28,13 +28,13 @@ use model::Refusal;
 use model::SectionRecord;
 use object::Checked;
 use object_view::View;
+use object_view::is_no_section;
 use parse_first::LicenseAt;
 use parse_text::ParsedText;
 use record_keys::By;
+use records::Cursor;
+use records::Step;
 use stream::size;
-
-// A symbol's section, where it has none.
-const NO_SECTION: u32 = 0xFFFF_FFFF;
 
 // How many record numbers there are for each table; where the licence stands, and the version.
 pub struct Counts {
@@ -65,9 +65,9 @@ fn group_of(d: &[u8], t: &[u32], v: View, s: SectionRecord, order: &[u32], from:
         ⌝ }
     ensures { λ r. ⌜ GroupOf (now (d .entry)) (now (t .entry)) v s (now (order .entry)) from (r .lo) (r .hi) ⌝ }
 {
-    let k = s.index.0;
+    let k = s.index;
     let lo = symbol_groups::group_start(d, t, v, order, from, k);
-    if k == NO_SECTION {
+    if is_no_section(k) {
         return Group { lo: lo, hi: lo };
     }
     let hi = symbol_groups::group_end(d, t, v, order, lo, k);
@@ -376,7 +376,7 @@ fn parse_sections(
 {
     let end = v.sections;
     let count = size(end);
-    let mut i: u32 = 0;
+    let mut c = Cursor::new(end);
     let mut from: usize = 0;
     let mut n = Counts {
         sections: 0,
@@ -386,52 +386,58 @@ fn parse_sections(
         license,
         version,
     };
-    while i < end {
-        let s = records::section(d, t, v, i);
-        let kind = object::kind_of(d, t, v, s);
-        let at = group_of(d, t, v, s, order, from);
-        let lo = at.lo;
-        let hi = at.hi;
-        let a = count + lo;
-        let b = count + hi;
-        let w = n.functions;
-        match parse_section(
-            d,
-            t,
-            v,
-            s,
-            kind,
-            next,
-            order,
-            lo,
-            hi,
-            &mut programs[lo..hi],
-            &mut maps[a..b],
-            &mut functions[0..hi],
-            w,
-        ) {
-            ParsedText::Refused(r) => return Tables::Refused(r),
-            ParsedText::Functions(m) => {
-                n = list_others(
-                    end,
+    loop {
+        match c.next() {
+            Step::Record(i, moved) => {
+                let s = records::section(d, t, v, i);
+                let kind = object::kind_of(d, t, v, s);
+                let at = group_of(d, t, v, s, order, from);
+                let lo = at.lo;
+                let hi = at.hi;
+                let a = count + lo;
+                let b = count + hi;
+                let w = n.functions;
+                match parse_section(
+                    d,
+                    t,
+                    v,
+                    s,
                     kind,
-                    i,
+                    next,
                     order,
                     lo,
                     hi,
-                    sections,
-                    programs,
-                    functions,
-                    maps,
-                    n,
-                    m,
-                );
+                    &mut programs[lo..hi],
+                    &mut maps[a..b],
+                    &mut functions[0..hi],
+                    w,
+                ) {
+                    ParsedText::Refused(r) => return Tables::Refused(r),
+                    ParsedText::Functions(m) => {
+                        n = list_others(
+                            end,
+                            kind,
+                            i,
+                            order,
+                            lo,
+                            hi,
+                            sections,
+                            programs,
+                            functions,
+                            maps,
+                            n,
+                            m,
+                        );
+                    }
+                }
+                from = hi;
+                c = moved;
+            }
+            Step::End => {
+                return Tables::Numbers(n);
             }
         }
-        from = hi;
-        i += 1;
     }
-    Tables::Numbers(n)
 }
 
 // Numbers 4 to 17; the numbers that the sections list for each table, in their order. next and order are worked in.

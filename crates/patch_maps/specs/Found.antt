@@ -13,6 +13,7 @@ use lib.Seq.{take-at, getD-take}
 use Rattle.lists.specs.Tab.{tab, length-tab, getD-tab}
 use Rattle.lists.specs.Tests.{not-some}
 use Rattle.object_view.specs.declared.View.{View}
+use Rattle.object_view.specs.NoIndex.{isNone}
 use Rattle.model.specs.declared.SectionIndex.{SectionIndex}
 use Rattle.model.specs.declared.SymbolRecord.{SymbolRecord}
 use Rattle.model.specs.Bytes.{firstIn, find, orElse, maybe}
@@ -243,15 +244,15 @@ places-room d t v ns by e =
 -- ---- what a look at the symbol's record and at the list of places answers
 
 module _ (d t : List ℕ) (v : View) (by : List ℕ) (y : SymbolRecord) where
-  pub no-section : y .section .0 ≡ 0xFFFFFFFF → 0 ≡ placeOf d t v by y
-  no-section e = rw (eq-eqb (y .section .0) 0xFFFFFFFF e)
+  pub no-section : isNone (y .section .0) ≡ true → 0 ≡ placeOf d t v by y
+  no-section e = rw e
 
   place-by : (o : Option ℕ) (w : Owner) → w ≡ ownerOf o → ownerPlace by w ≡ maybe o 0 (λ i. getD by i 0)
   place-by none w e = rw e
   place-by (some i) w e = rw e
 
-  pub some-section : (w : Owner) → (y .section .0 ≡ 0xFFFFFFFF → ⊥) → w ≡ ownerOf (ownerIn d t v (y .section .0)) → ownerPlace by w ≡ placeOf d t v by y
-  some-section w n e = rw (ne-eqb (y .section .0) 0xFFFFFFFF n) (place-by (ownerIn d t v (y .section .0)) w e)
+  pub some-section : (w : Owner) → isNone (y .section .0) ≡ false → w ≡ ownerOf (ownerIn d t v (y .section .0)) → ownerPlace by w ≡ placeOf d t v by y
+  some-section w n e = rw n (place-by (ownerIn d t v (y .section .0)) w e)
 
 pub owner-below : (d t : List ℕ) (v : View) → Readable d t v → (k i : ℕ) → Owner.Section i ≡ ownerOf (ownerIn d t v k) → i < v .sections
 owner-below d t v rise k i e = go (ownerIn d t v k) refl e

@@ -10,6 +10,7 @@ ghost use Rattle.patch_maps.specs.Places.{mapHome, mapPlaces};
 ghost use Rattle.patch_maps.specs.Found.{placeOf};
 use model::SymbolRecord;
 use object_view::View;
+use object_view::is_no_section;
 use records::symbol;
 use stream::size;
 use symbol_section::Owner;
@@ -68,7 +69,7 @@ pub fn place_of(d: &[u8], t: &[u32], v: View, by: &[u32], y: SymbolRecord) -> us
     ensures { λ r. ⌜ r ≡ placeOf (now (d .entry)) (now (t .entry)) v (now (by .entry)) y ⌝ }
 {
     let index = y.section;
-    if index.0 == 0xFFFFFFFF {
+    if is_no_section(index) {
         return 0;
     }
     match section_of(d, t, v, index) {

@@ -381,7 +381,7 @@ pub fn data_place(v: View, e: Extent) -> usize
     size(v.at.bytes) + size(e.at)
 }
 
-// A walk over record numbers, up to `end`.
+// A walk over the record numbers of a table, up to `end`.
 pub struct Cursor {
     pub at: u32,
     pub end: u32,
@@ -398,17 +398,6 @@ impl Cursor {
         ensures { λ r. ⌜ r ≡ cursor 0 end ⌝ }
     {
         Cursor { at: 0, end }
-    }
-
-    // Over a range of it.
-    pub fn over(e: Extent) -> Self
-        requires { ⌜ e .at + e .length < 2 ^ 32 ⌝ }
-        ensures { λ r. ⌜ r ≡ cursor (e .at) (e .at + e .length) ⌝ }
-    {
-        Cursor {
-            at: e.at,
-            end: e.at + e.length,
-        }
     }
 
     // The next number, with the cursor moved past it.

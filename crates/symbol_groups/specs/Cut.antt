@@ -5,12 +5,12 @@ use mathlib.Core.List.{List, [], _∷_}
 use mathlib.Core.Option.{none, some}
 use Prim.Native.Nat.{ℕ, _+_, _<_, _≤_}
 use native.Mathlib.Omega.{arith}
-use lib.Dec.{eqb}
 use borrow.Author.Tests.{eqb-true}
 use lib.ListN.{length, getD}
 use lib.Seq.{slice}
 use Rattle.lists.specs.Slice.{slice-more, slice-none}
 use Rattle.object_view.specs.declared.View.{View}
+use Rattle.object_view.specs.NoIndex.{noIndex, isNone}
 use Rattle.model.specs.declared.SectionIndex.{SectionIndex}
 use Rattle.model.specs.declared.SymbolRecord.{SymbolRecord}
 use Rattle.model.specs.Bytes.{maybe}
@@ -23,10 +23,10 @@ use Rattle.object.specs.View.{symbolFrom}
 -- the number of a symbol's section as its record has it
 pub raw-is : (d t : List ℕ) (v : View) (r : SymbolRecord) → rawSection (symbolFrom d t v r) ≡ r .section .0
 unfolding symbolFrom
-raw-is d t v r = go (eqb (r .section .0) 4294967295) refl
+raw-is d t v r = go (isNone (r .section .0)) refl
   where
-    go : (b : Bool) → eqb (r .section .0) 4294967295 ≡ b → maybe (cond b none (some (r .section))) 4294967295 (λ (k : SectionIndex). k .0) ≡ r .section .0
-    go true e = sym (eqb-true (r .section .0) 4294967295 e)
+    go : (b : Bool) → isNone (r .section .0) ≡ b → maybe (cond b none (some (r .section))) noIndex (λ (k : SectionIndex). k .0) ≡ r .section .0
+    go true e = sym (eqb-true (r .section .0) noIndex e)
     go false e = refl
 
 module _ (d t : List ℕ) (v : View) (l : List ℕ) (from k : ℕ) where

@@ -7,6 +7,7 @@ ghost use Rattle.catalogue_laws.specs.SortedGroups.{bySection};
 ghost use Rattle.orders.specs.Sort.{sorted};
 ghost use Rattle.object.specs.View.{symbolIn};
 ghost use Rattle.symbol_groups.specs.Cut.{Start, End};
+use model::SectionIndex;
 use object_view::View;
 use record_keys::By;
 
@@ -19,13 +20,20 @@ pub fn by_section(d: &[u8], t: &[u32], v: View, order: &mut [u32], tmp: &mut [u3
 }
 
 // Past the symbols of sections below k.
-pub fn group_start(d: &[u8], t: &[u32], v: View, order: &[u32], from: usize, k: u32) -> usize
+pub fn group_start(
+    d: &[u8],
+    t: &[u32],
+    v: View,
+    order: &[u32],
+    from: usize,
+    k: SectionIndex,
+) -> usize
     requires { ⌜ (from ≤ length (now order)) ⌝ }
-    ensures { λ r. ⌜ Start (now (d .entry)) (now (t .entry)) v (now (order .entry)) from k r ⌝ }
+    ensures { λ r. ⌜ Start (now (d .entry)) (now (t .entry)) v (now (order .entry)) from (k .0) r ⌝ }
 {
     let mut at = from;
     while at < order.len() {
-        if records::symbol_section(d, t, v, order[at]).0 >= k {
+        if records::symbol_section(d, t, v, order[at]).0 >= k.0 {
             return at;
         }
         at += 1;
@@ -34,13 +42,13 @@ pub fn group_start(d: &[u8], t: &[u32], v: View, order: &[u32], from: usize, k: 
 }
 
 // Past the symbols of section k.
-pub fn group_end(d: &[u8], t: &[u32], v: View, order: &[u32], from: usize, k: u32) -> usize
+pub fn group_end(d: &[u8], t: &[u32], v: View, order: &[u32], from: usize, k: SectionIndex) -> usize
     requires { ⌜ (from ≤ length (now order)) ⌝ }
-    ensures { λ r. ⌜ End (now (d .entry)) (now (t .entry)) v (now (order .entry)) from k r ⌝ }
+    ensures { λ r. ⌜ End (now (d .entry)) (now (t .entry)) v (now (order .entry)) from (k .0) r ⌝ }
 {
     let mut at = from;
     while at < order.len() {
-        if records::symbol_section(d, t, v, order[at]).0 != k {
+        if records::symbol_section(d, t, v, order[at]).0 != k.0 {
             return at;
         }
         at += 1;

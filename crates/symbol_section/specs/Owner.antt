@@ -11,6 +11,7 @@ use borrow.Author.Tests.{eqb-true, eq-eqb, ne-eqb, ltb-true, ltb-false, lt-ltb}
 use lib.Dec.{eqb, ltb}
 use Rattle.lists.specs.Tests.{true-not-false, both-true}
 use Rattle.object_view.specs.declared.View.{View}
+use Rattle.object_view.specs.NoIndex.{isNone}
 use Rattle.model.specs.declared.SymbolRecord.{SymbolRecord}
 use Rattle.model.specs.Bytes.{maybe}
 use Rattle.model.specs.Deposit.{unlessNone}
@@ -98,12 +99,12 @@ module _ (d t : List ℕ) (v : View) where
 
   -- what a symbol's record and the owner of its section's index answer
   module _ (y : SymbolRecord) where
-    pub home-none : y .section .0 ≡ 0xFFFFFFFF → 0 ≡ homeOf y
-    home-none e = rw (eq-eqb (y .section .0) 0xFFFFFFFF e)
+    pub home-none : isNone (y .section .0) ≡ true → 0 ≡ homeOf y
+    home-none e = rw e
 
     home-by : (o : Option ℕ) (w : Owner) → w ≡ ownerOf o → numberOf w ≡ maybe o 0 (λ i. i)
     home-by none w e = rw e
     home-by (some i) w e = rw e
 
-    pub home-some : (w : Owner) → (y .section .0 ≡ 0xFFFFFFFF → ⊥) → w ≡ ownerOf (ownerIn (y .section .0)) → numberOf w ≡ homeOf y
-    home-some w n e = rw (ne-eqb (y .section .0) 0xFFFFFFFF n) (home-by (ownerIn (y .section .0)) w e)
+    pub home-some : (w : Owner) → isNone (y .section .0) ≡ false → w ≡ ownerOf (ownerIn (y .section .0)) → numberOf w ≡ homeOf y
+    home-some w n e = rw n (home-by (ownerIn (y .section .0)) w e)

@@ -9,6 +9,8 @@ use model::SectionIndex;
 use model::SectionRecord;
 use model::SymbolRecord;
 use object_view::View;
+use object_view::is_no_section;
+use records::section_index;
 
 // The number of the section record that has an index.
 pub enum Owner {
@@ -22,38 +24,31 @@ pub struct Member {
     pub section: SectionRecord,
 }
 
-// The index of section record i.
-fn index_at(d: &[u8], t: &[u32], v: View, i: u32) -> u32
-    ensures { λ r. ⌜ r ≡ sectionAt (now (d .entry)) (now (t .entry)) v i .index .0 ⌝ }
-{
-    records::section_index(d, t, v, i).0
-}
-
 // The number of the record that has index k, where the indexes follow one another.
-fn guess(d: &[u8], t: &[u32], v: View, k: u32) -> u32
-    ensures { λ r. ⌜ r ≡ k - sectionAt (now (d .entry)) (now (t .entry)) v 0 .index .0 ⌝ }
+fn guess(d: &[u8], t: &[u32], v: View, k: SectionIndex) -> u32
+    ensures { λ r. ⌜ r ≡ k .0 - sectionAt (now (d .entry)) (now (t .entry)) v 0 .index .0 ⌝ }
 {
-    let first = index_at(d, t, v, 0);
-    if first < k { k - first } else { 0 }
+    let first = section_index(d, t, v, 0);
+    if first.0 < k.0 { k.0 - first.0 } else { 0 }
 }
 
 // Whether section record i has index k.
-fn has_index(d: &[u8], t: &[u32], v: View, i: u32, k: u32) -> bool
-    ensures { λ r. ⌜ r ≡ hasIndex (now (d .entry)) (now (t .entry)) v k i ⌝ }
+fn has_index(d: &[u8], t: &[u32], v: View, i: u32, k: SectionIndex) -> bool
+    ensures { λ r. ⌜ r ≡ hasIndex (now (d .entry)) (now (t .entry)) v (k .0) i ⌝ }
 {
-    i < v.sections && index_at(d, t, v, i) == k
+    i < v.sections && section_index(d, t, v, i).0 == k.0
 }
 
 // The first section record whose index is not below k, or how many there are.
-fn lower_bound(d: &[u8], t: &[u32], v: View, k: u32) -> u32
+fn lower_bound(d: &[u8], t: &[u32], v: View, k: SectionIndex) -> u32
     requires { ⌜ Readable (now d) (now t) v ⌝ }
-    ensures { λ r. ⌜ First (now (d .entry)) (now (t .entry)) v k r ⌝ }
+    ensures { λ r. ⌜ First (now (d .entry)) (now (t .entry)) v (k .0) r ⌝ }
 {
     let mut low: u32 = 0;
     let mut high: u32 = v.sections;
     while low < high {
         let middle = low + (high - low) / 2;
-        if index_at(d, t, v, middle) < k {
+        if section_index(d, t, v, middle).0 < k.0 {
             low = middle + 1;
         } else {
             high = middle;
@@ -66,13 +61,12 @@ pub fn section_of(d: &[u8], t: &[u32], v: View, index: SectionIndex) -> Owner
     requires { ⌜ Readable (now d) (now t) v ⌝ }
     ensures { λ r. ⌜ r ≡ ownerOf (ownerIn (now (d .entry)) (now (t .entry)) v (index .0)) ⌝ }
 {
-    let k = index.0;
-    let near = guess(d, t, v, k);
-    if has_index(d, t, v, near, k) {
+    let near = guess(d, t, v, index);
+    if has_index(d, t, v, near, index) {
         return Owner::Section(near);
     }
-    let i = lower_bound(d, t, v, k);
-    if has_index(d, t, v, i, k) {
+    let i = lower_bound(d, t, v, index);
+    if has_index(d, t, v, i, index) {
         Owner::Section(i)
     } else {
         Owner::Nothing
@@ -85,7 +79,7 @@ pub fn section_of_symbol(d: &[u8], t: &[u32], v: View, y: SymbolRecord) -> u32
     ensures { λ r. ⌜ r ≡ homeOf (now (d .entry)) (now (t .entry)) v y ⌝ }
 {
     let index = y.section;
-    if index.0 == 0xFFFFFFFF {
+    if is_no_section(index) {
         return 0;
     }
     match section_of(d, t, v, index) {

@@ -20,7 +20,7 @@ use Rattle.deposit_rules.proofs.check_sections.Tie as tie
 abbrev Inv-loop : tie.InvT-loop
 Inv-loop d h clean c₀ last₀ btf₀ c last btf =
     (c .end ≡ h .sections)
-    × (sectionsOk d h ≡ ruled (λ r. r .index .0) (sectionOkAt d h) last (drop (c .at) (tab (depositSection d) (h .sections))))
+    × (sectionsOk d h ≡ ruled (λ r. r .index .0) (sectionOkAt d h) (last .0) (drop (c .at) (tab (depositSection d) (h .sections))))
     × (someBtf d h ≡ (btf || some-of (isBtf d h) (drop (c .at) (tab (depositSection d) (h .sections)))))
 
 abbrev μ-loop : tie.MeasureT-loop
@@ -40,7 +40,7 @@ to-go : (c : tie.After-deposit-section Inv-loop μ-loop) →
     let a = l .before .before .before .args in
     let y = c .deposit-section .result in
     (sectionsOk (now (a .d)) (a .h)
-    ≡ (ltb (l .loop .last) (y .index .0)
+    ≡ (ltb (l .loop .last .0) (y .index .0)
     && (sectionOkAt (now (a .d)) (a .h) y
     && ruled (λ r. r .index .0) (sectionOkAt (now (a .d)) (a .h)) (y .index .0) (drop (l .loop .c .at + 1) (tab (depositSection (now (a .d))) (a .h .sections))))))
     × (someBtf (now (a .d)) (a .h)
@@ -52,7 +52,7 @@ to-go c =
     let e = c .deposit-section .ensures ∙ ap (depositSection (now (a .d))) (m .0) in
     rw e (
       l .loop .inv .1
-          ∙ ruled-from (depositSection (now (a .d))) (a .h .sections) (l .loop .c .at) (λ r. r .index .0) (sectionOkAt (now (a .d)) (a .h)) (l .loop .last) (omega (arith, m)),
+          ∙ ruled-from (depositSection (now (a .d))) (a .h .sections) (l .loop .c .at) (λ r. r .index .0) (sectionOkAt (now (a .d)) (a .h)) (l .loop .last .0) (omega (arith, m)),
       l .loop .inv .2
           ∙ ap (λ (b : Bool). l .loop .btf || b) (some-from (depositSection (now (a .d))) (a .h .sections) (l .loop .c .at) (isBtf (now (a .d)) (a .h)) (omega (arith, m))),
     )
@@ -75,7 +75,7 @@ deposit-section-requires c κs = search needs
 
 returns : tie.Need-returns Inv-loop μ-loop
 unfolding checkedSections
-returns c = rw (to-go (c .before .before) .0, le-ltb _ _ (c .if1 .taken))
+returns c = rw (to-go (c .before .before .before .before) .0, le-ltb _ _ (c .if1 .taken))
 
 section-ok-requires : tie.Need-section-ok-requires Inv-loop μ-loop
 section-ok-requires c κs = search needs
@@ -84,25 +84,25 @@ returns-2 : tie.Need-returns-2 Inv-loop μ-loop
 unfolding checkedSections
 returns-2 c =
     let k = c .before .section-ok in
-    rw (to-go (c .before .before .before .before) .0, lt-ltb _ _ (c .before .before .if1 .left), ← k .ensures, not-true (k .result) (c .if2 .taken))
+    rw (to-go (c .before .before .before .before .before .before) .0, lt-ltb _ _ (c .before .before .if1 .left), ← k .ensures, not-true (k .result) (c .if2 .taken))
 
 is-btf-requires : tie.Need-is-btf-requires Inv-loop μ-loop
 is-btf-requires c κs = search needs
 
 loop-less : tie.Need-loop-less Inv-loop μ-loop
-loop-less c = let m = moved (c .before .before .before .before .before .before) in rw (m .1) (omega (arith, m .2))
+loop-less c = let m = moved (c .before .before .before .before .before .before .before .before) in rw (m .1) (omega (arith, m .2))
 
 loop-again : tie.Need-loop-again Inv-loop μ-loop
 loop-again c =
-    let m = moved (c .before .before .before .before .before .before) in
+    let m = moved (c .before .before .before .before .before .before .before .before) in
     let k = c .before .before .section-ok in
-    let g = to-go (c .before .before .before .before .before) in
-    let l = c .before .before .before .before .before .before .before .before .before .before in
+    let g = to-go (c .before .before .before .before .before .before .before) in
+    let l = c .before .before .before .before .before .before .before .before .before .before .before .before in
     let a = l .before .before .before .args in
     let rest : Bool = some-of (isBtf (now (a .d)) (a .h)) (drop (l .loop .c .at + 1) (tab (depositSection (now (a .d))) (a .h .sections))) in (
-      rw (m .1) (c .before .before .before .before .before .before .before .before .before .before .loop .inv .0),
+      rw (m .1) (l .loop .inv .0),
       rw (m .1) (g .0 ∙ rw (lt-ltb _ _ (c .before .before .before .if1 .left), ← k .ensures, not-false (k .result) (c .before .if2 .left))),
-      rw (m .1) (g .1 ∙ rw (c .is-btf .ensures) (sym (or-assoc (l .loop .btf) (isBtf (now (a .d)) (a .h) (c .before .before .before .before .before .deposit-section .result)) rest))),
+      rw (m .1) (g .1 ∙ rw (c .is-btf .ensures) (sym (or-assoc (l .loop .btf) (isBtf (now (a .d)) (a .h) (c .before .before .before .before .before .before .before .deposit-section .result)) rest))),
     )
 
 enum-told : tie.Need-enum-told Inv-loop μ-loop
@@ -118,7 +118,7 @@ whole c =
     let a = l .before .before .before .args in
     let e = step-end (l .loop .c) (sym (c .before .before .next .ensures) ∙ c .enum-told .given .1) in (
       l .loop .inv .1
-          ∙ ruled-end (depositSection (now (a .d))) (a .h .sections) (l .loop .c .at) (λ r. r .index .0) (sectionOkAt (now (a .d)) (a .h)) (l .loop .last) (omega arith),
+          ∙ ruled-end (depositSection (now (a .d))) (a .h .sections) (l .loop .c .at) (λ r. r .index .0) (sectionOkAt (now (a .d)) (a .h)) (l .loop .last .0) (omega arith),
       l .loop .inv .2
           ∙ ap (λ (b : Bool). l .loop .btf || b) (some-end (depositSection (now (a .d))) (a .h .sections) (l .loop .c .at) (isBtf (now (a .d)) (a .h)) (omega arith))
           ∙ or-false (l .loop .btf),

@@ -17,7 +17,7 @@ use Rattle.deposit_rules.proofs.symbols_ok.Tie as tie
 
 abbrev Inv-loop : tie.InvT-loop
 Inv-loop d h clean c₀ last₀ c last =
-    (c .end ≡ h .symbols) × (symbolsOk d h ≡ ruled (λ r. r .index .0) (symbolOkAt d h) last (drop (c .at) (tab (depositSymbol d h) (h .symbols))))
+    (c .end ≡ h .symbols) × (symbolsOk d h ≡ ruled (λ r. r .index .0) (symbolOkAt d h) (last .0) (drop (c .at) (tab (depositSymbol d h) (h .symbols))))
 
 abbrev μ-loop : tie.MeasureT-loop
 μ-loop d h clean c₀ last₀ c last = c .end - c .at
@@ -36,7 +36,7 @@ to-go : (c : tie.After-deposit-symbol Inv-loop μ-loop) →
     let a = l .before .before .before .args in
     let y = c .deposit-symbol .result in
     symbolsOk (now (a .d)) (a .h)
-    ≡ (ltb (l .loop .last) (y .index .0)
+    ≡ (ltb (l .loop .last .0) (y .index .0)
     && (symbolOkAt (now (a .d)) (a .h) y
     && ruled (λ r. r .index .0) (symbolOkAt (now (a .d)) (a .h)) (y .index .0) (drop (l .loop .c .at + 1) (tab (depositSymbol (now (a .d)) (a .h)) (a .h .symbols)))))
 to-go c =
@@ -46,7 +46,7 @@ to-go c =
     let e = c .deposit-symbol .ensures ∙ ap (depositSymbol (now (a .d)) (a .h)) (m .0) in
     rw e
     (l .loop .inv .1
-    ∙ ruled-from (depositSymbol (now (a .d)) (a .h)) (a .h .symbols) (l .loop .c .at) (λ r. r .index .0) (symbolOkAt (now (a .d)) (a .h)) (l .loop .last) (omega (arith, m)))
+    ∙ ruled-from (depositSymbol (now (a .d)) (a .h)) (a .h .symbols) (l .loop .c .at) (λ r. r .index .0) (symbolOkAt (now (a .d)) (a .h)) (l .loop .last .0) (omega (arith, m)))
 
 new-requires : tie.Need-new-requires Inv-loop μ-loop
 new-requires c κs = search needs
@@ -65,7 +65,7 @@ deposit-symbol-requires : tie.Need-deposit-symbol-requires Inv-loop μ-loop
 deposit-symbol-requires c κs = search needs
 
 returns : tie.Need-returns Inv-loop μ-loop
-returns c = sym (to-go (c .before .before) ∙ rw (le-ltb _ _ (c .if1 .taken)))
+returns c = sym (to-go (c .before .before .before .before) ∙ rw (le-ltb _ _ (c .if1 .taken)))
 
 symbol-ok-requires : tie.Need-symbol-ok-requires Inv-loop μ-loop
 symbol-ok-requires c κs = search needs
@@ -73,17 +73,17 @@ symbol-ok-requires c κs = search needs
 returns-2 : tie.Need-returns-2 Inv-loop μ-loop
 returns-2 c =
     let k = c .before .symbol-ok in
-    sym (to-go (c .before .before .before .before) ∙ rw (lt-ltb _ _ (c .before .before .if1 .left), ← k .ensures, not-true (k .result) (c .if2 .taken)))
+    sym (to-go (c .before .before .before .before .before .before) ∙ rw (lt-ltb _ _ (c .before .before .if1 .left), ← k .ensures, not-true (k .result) (c .if2 .taken)))
 
 loop-less : tie.Need-loop-less Inv-loop μ-loop
-loop-less c = let m = moved (c .before .before .before .before .before) in rw (m .1) (omega (arith, m .2))
+loop-less c = let m = moved (c .before .before .before .before .before .before .before) in rw (m .1) (omega (arith, m .2))
 
 loop-again : tie.Need-loop-again Inv-loop μ-loop
 loop-again c =
-    let m = moved (c .before .before .before .before .before) in
+    let m = moved (c .before .before .before .before .before .before .before) in
     let k = c .before .symbol-ok in (
-      rw (m .1) (c .before .before .before .before .before .before .before .before .before .loop .inv .0),
-      rw (m .1) (to-go (c .before .before .before .before) ∙ rw (lt-ltb _ _ (c .before .before .if1 .left), ← k .ensures, not-false (k .result) (c .if2 .left))),
+      rw (m .1) (c .before .before .before .before .before .before .before .before .before .before .before .loop .inv .0),
+      rw (m .1) (to-go (c .before .before .before .before .before .before) ∙ rw (lt-ltb _ _ (c .before .before .if1 .left), ← k .ensures, not-false (k .result) (c .if2 .left))),
     )
 
 enum-told : tie.Need-enum-told Inv-loop μ-loop
@@ -96,7 +96,7 @@ returns-3 c =
     let e = step-end (l .loop .c) (sym (c .before .before .next .ensures) ∙ c .enum-told .given .1) in
     sym
     (l .loop .inv .1
-    ∙ ruled-end (depositSymbol (now (a .d)) (a .h)) (a .h .symbols) (l .loop .c .at) (λ r. r .index .0) (symbolOkAt (now (a .d)) (a .h)) (l .loop .last) (omega arith))
+    ∙ ruled-end (depositSymbol (now (a .d)) (a .h)) (a .h .symbols) (l .loop .c .at) (λ r. r .index .0) (symbolOkAt (now (a .d)) (a .h)) (l .loop .last .0) (omega arith))
 
 pub symbols-ok-spec : {M : Type 1} → statement M
 symbols-ok-spec =

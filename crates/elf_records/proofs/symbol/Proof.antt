@@ -62,7 +62,7 @@ returns c =
     let home = c .before .before .before .before .before .before .before .symbol-section .ensures in
     let kind : c .before .before .before .before .before .kind .result ≡ kindOf (getD d (p + 4) 0) = c .before .before .before .before .before .kind .ensures ∙ rw (c .before .before .before .before .before .before .u8-at .ensures, s, s₂) in
     let bytes : c .before .u64-at .result ≡ num d v (p + 16) 8 = c .before .u64-at .ensures ∙ rw (s, s₂) in
-    let definition : c .definition .result ≡ definitionOf (kindOf (getD d (p + 4) 0)) (symbolSectionAt d v (a .i) .0) = c .definition .ensures ∙ rw (kind, home) in
+    let definition : c .definition .result ≡ definitionOf (kindOf (getD d (p + 4) 0)) (symbolSectionAt d v (a .i)) = c .definition .ensures ∙ rw (kind, home) in
     λ k. record {
       index = record { 0 = c .before .before .before .before .sum .ensures k };
       section = home k;

@@ -9,8 +9,14 @@ use borrow.Author.Needs.{needs}
 use Rattle.patch_maps.proofs.place_of.Statement.{statement}
 use Rattle.patch_maps.proofs.place_of.Tie as tie
 
+is-no-section-requires : tie.Need-is-no-section-requires
+is-no-section-requires c κs = search needs
+
 returns : tie.Need-returns
-returns c = let a = c .before .before .before .before .before .before .args in no-section (now (a .d)) (now (a .t)) (a .v) (now (a .by)) (a .y) (c .if1 .taken)
+returns c =
+    let n = c .before in
+    let a = n .before .before .before .before .before .args in
+    no-section (now (a .d)) (now (a .t)) (a .v) (now (a .by)) (a .y) (sym (n .is-no-section .ensures) ∙ c .if1 .taken)
 
 section-of-requires : tie.Need-section-of-requires
 section-of-requires c κs = search needs
@@ -42,19 +48,24 @@ enum-told c = search needs
 
 returns-2 : tie.Need-returns-2
 returns-2 c =
-    let a = c .before .before .before .before .before .before .before .before .before .before .before .before .before .args in
+    let o = c .before .before .before .before .before .before in
+    let n = o .before .before in
+    let a = n .before .before .before .before .before .args in
     let e = c .size2 .ensures .0 ∙ ap (λ (i : ℕ). getD (now (a .by)) i 0) (c .before .before .size .ensures .0) in
-    e ∙ ap (ownerPlace (now (a .by))) (sym (c .before .before .before .before .i .given .1)) ∙ some-section (now (a .d)) (now (a .t)) (a .v) (now (a .by)) (a .y) (c .before .before .before .before .before .before .section-of .result) (c .before .before .before .before .before .before .before .if1 .left) (c .before .before .before .before .before .before .section-of .ensures)
+    e ∙ ap (ownerPlace (now (a .by))) (sym (c .before .before .before .before .i .given .1)) ∙ some-section (now (a .d)) (now (a .t)) (a .v) (now (a .by)) (a .y) (o .section-of .result) (sym (n .is-no-section .ensures) ∙ o .before .if1 .left) (o .section-of .ensures)
 
 returns-3 : tie.Need-returns-3
 returns-3 c =
-    let a = c .before .before .before .before .before .before .before .before .before .args in
-    ap (ownerPlace (now (a .by))) (sym (c .enum-told .given .1)) ∙ some-section (now (a .d)) (now (a .t)) (a .v) (now (a .by)) (a .y) (c .before .before .section-of .result) (c .before .before .before .if1 .left) (c .before .before .section-of .ensures)
+    let o = c .before .before in
+    let n = o .before .before in
+    let a = n .before .before .before .before .before .args in
+    ap (ownerPlace (now (a .by))) (sym (c .enum-told .given .1)) ∙ some-section (now (a .d)) (now (a .t)) (a .v) (now (a .by)) (a .y) (o .section-of .result) (sym (n .is-no-section .ensures) ∙ o .before .if1 .left) (o .section-of .ensures)
 
 pub place-of-spec : {M : Type 1} → statement M
 place-of-spec =
     tie.close
     (tie.spec
+    is-no-section-requires
     returns
     section-of-requires
     enum-known-i

@@ -4,14 +4,14 @@ use borrow.Author.Needs.{needs}
 use Rattle.symbol_section.proofs.has_index.Statement.{statement}
 use Rattle.symbol_section.proofs.has_index.Tie as tie
 
-index-at-requires : tie.Need-index-at-requires
-index-at-requires c κs = search needs
+section-index-requires : tie.Need-section-index-requires
+section-index-requires c κs = search needs
 
 returns : tie.Need-returns
-returns c = rw (lt-ltb _ _ (c .before .if1 .taken), c .index-at .ensures)
+returns c = rw (lt-ltb _ _ (c .before .before .before .if1 .taken), c .before .before .section-index .ensures)
 
 returns-2 : tie.Need-returns-2
 returns-2 c = rw (le-ltb _ _ (c .if1 .left))
 
 pub has-index-spec : {M : Type 1} → statement M
-has-index-spec = tie.close (tie.spec index-at-requires returns returns-2)
+has-index-spec = tie.close (tie.spec section-index-requires returns returns-2)

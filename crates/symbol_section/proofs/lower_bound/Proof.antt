@@ -1,8 +1,10 @@
 -- `symbol_section::lower_bound` meets its contract: below `low` each index is below k, and from `high` on none is; each turn's record decides for those below it or above.
 use denote.Ref.{now}
 use Prim.Native.Nat.{ℕ, _+_, _-_, _/_, _<_, _≤_}
+use mathlib.Core.Path.{ap}
 use native.Mathlib.Omega.{arith}
 use borrow.Author.Needs.{needs}
+use Rattle.model.specs.declared.SectionIndex.{SectionIndex}
 use Rattle.records.specs.View.{sectionAt}
 use Rattle.symbol_section.specs.Owner.{all-below, all-above}
 use Rattle.symbol_section.proofs.lower_bound.Statement.{statement}
@@ -10,8 +12,8 @@ use Rattle.symbol_section.proofs.lower_bound.Tie as tie
 
 abbrev Inv-loop : tie.InvT-loop
 Inv-loop d t v k low₀ high₀ low high =
-    (low ≤ high) × (high ≤ high₀) × ((i : ℕ) → i < low → sectionAt d t v i .index .0 < k)
-    × ((i : ℕ) → high ≤ i → i < high₀ → k ≤ sectionAt d t v i .index .0)
+    (low ≤ high) × (high ≤ high₀) × ((i : ℕ) → i < low → sectionAt d t v i .index .0 < k .0)
+    × ((i : ℕ) → high ≤ i → i < high₀ → k .0 ≤ sectionAt d t v i .index .0)
 
 abbrev μ-loop : tie.MeasureT-loop
 μ-loop d t v k low₀ high₀ low high = high - low
@@ -25,8 +27,8 @@ sub-middle c = omega arith
 add-middle : tie.Need-add-middle Inv-loop μ-loop
 add-middle c = omega arith
 
-index-at-requires : tie.Need-index-at-requires Inv-loop μ-loop
-index-at-requires c κs = search needs
+section-index-requires : tie.Need-section-index-requires Inv-loop μ-loop
+section-index-requires c κs = search needs
 
 add-low : tie.Need-add-low Inv-loop μ-loop
 add-low c = omega arith
@@ -36,23 +38,25 @@ loop-less c = omega arith
 
 loop-again : tie.Need-loop-again Inv-loop μ-loop
 loop-again c =
-    let l = c .before .before .before .loop in
-    let a = c .before .before .before .before .before .before in
+    let l = c .before .before .before .before .before .loop in
+    let a = c .before .before .before .before .before .before .before .before in
+    let e = ap (λ (s : SectionIndex). s .0) (c .before .before .before .section-index .ensures) in
     let m = l .low + (l .high - l .low) / 2 in
     let t : m < a .args .v .sections = omega arith in
-    let q : sectionAt (now (a .args .d)) (now (a .args .t)) (a .args .v) m .index .0 < a .args .k = omega (arith, c .before .index-at .ensures, c .if1 .taken) in
-    (omega arith, omega arith, all-below (now (a .args .d)) (now (a .args .t)) (a .args .v) (a .pre .sections-rise) (a .args .k) m t q, l .inv .3)
+    let q : sectionAt (now (a .args .d)) (now (a .args .t)) (a .args .v) m .index .0 < a .args .k .0 = omega (arith, e, c .if1 .taken) in
+    (omega arith, omega arith, all-below (now (a .args .d)) (now (a .args .t)) (a .args .v) (a .pre .sections-rise) (a .args .k .0) m t q, l .inv .3)
 
 loop-less-2 : tie.Need-loop-less-2 Inv-loop μ-loop
 loop-less-2 c = omega arith
 
 loop-again-2 : tie.Need-loop-again-2 Inv-loop μ-loop
 loop-again-2 c =
-    let l = c .before .before .before .loop in
-    let a = c .before .before .before .before .before .before in
+    let l = c .before .before .before .before .before .loop in
+    let a = c .before .before .before .before .before .before .before .before in
+    let e = ap (λ (s : SectionIndex). s .0) (c .before .before .before .section-index .ensures) in
     let m = l .low + (l .high - l .low) / 2 in
-    let q : a .args .k ≤ sectionAt (now (a .args .d)) (now (a .args .t)) (a .args .v) m .index .0 = omega (arith, c .before .index-at .ensures, c .if1 .left) in
-    (omega arith, omega arith, l .inv .2, all-above (now (a .args .d)) (now (a .args .t)) (a .args .v) (a .pre .sections-rise) (a .args .k) m q)
+    let q : a .args .k .0 ≤ sectionAt (now (a .args .d)) (now (a .args .t)) (a .args .v) m .index .0 = omega (arith, e, c .if1 .left) in
+    (omega arith, omega arith, l .inv .2, all-above (now (a .args .d)) (now (a .args .t)) (a .args .v) (a .pre .sections-rise) (a .args .k .0) m q)
 
 returns : tie.Need-returns Inv-loop μ-loop
 returns c =
@@ -68,7 +72,7 @@ lower-bound-spec =
     loop-holds
     sub-middle
     add-middle
-    index-at-requires
+    section-index-requires
     add-low
     loop-less
     loop-again

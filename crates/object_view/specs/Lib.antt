@@ -1,0 +1,2 @@
+-- What the contracts of `object_view` cite.
+pub mod NoIndex
