@@ -31,6 +31,8 @@ use object_view::View;
 use parse_first::LicenseAt;
 use parse_text::ParsedText;
 use record_keys::By;
+use records::MapSource;
+use records::map_number;
 use stream::size;
 
 // A symbol's section, where it has none.
@@ -307,7 +309,7 @@ fn list_maps(
     match kind {
         EbpfSectionKind::Maps => parse_maps::map_numbers(sections, order, lo, hi, out, w),
         EbpfSectionKind::Bss | EbpfSectionKind::Data | EbpfSectionKind::Rodata => {
-            out[w] = i;
+            out[w] = map_number(sections, MapSource::Section(i));
             w + 1
         }
         _ => w,

@@ -58,9 +58,6 @@ module _ (sections : ℕ) where
     pub of-section : (i : ℕ) → mapSourceOf sections n ≡ MapSource.Section i → i ≡ n
     of-section i e = rw e at source-number
 
-    pub of-symbol : (j : ℕ) → mapSourceOf sections n ≡ MapSource.Symbol j → sections + j ≡ n
-    of-symbol j e = rw e at source-number
-
 -- ---- its name
 
 module _ (d t : List ℕ) (v : View) where

@@ -1,4 +1,4 @@
-// The one door to records: a deposit's or an ELF file's, by number, through a view; and the walk over record numbers.
+// The one door to records: a deposit's or an ELF file's, by number, through a view; what a map's number stands for; and the walk over record numbers.
 ghost use mathlib.Core.Path.{_≡_};
 ghost use Prim.Native.Nat.{_+_, _^_, _<_, _≤_};
 ghost use lib.ListN.{length};
