@@ -38,7 +38,9 @@ use Rattle.catalogue_laws.specs.SectionsPrograms.{All, Rising, all-kept, home, 
 use Rattle.catalogue_laws.specs.FunctionsMaps.{Inside, inside, inside-programs, inside-walk, functionsIn, mapsIn, all-rows, all-found, all-sorted, all-∈}
 use Rattle.catalogue_laws.specs.Tables.{table-members}
 use Rattle.catalogue_laws.specs.Walk.{numberIn, walkRefusal, walk-met, walkNumbers, textFunctionOf, met-address}
+use Rattle.records.specs.declared.MapSource.{MapSource}
 use Rattle.records.specs.View.{gapOf, sectionAt, symbolAt}
+use Rattle.records.specs.Maps.{mapNumberOf, number-source}
 use Rattle.records.specs.Readable.{Readable}
 use Rattle.object.specs.View.{sectionFrom, symbolFrom, sectionIn, symbolIn, relocIn, objectIn, rising}
 use Rattle.catalogue_numbers.specs.Numbers.{homeAt, functionsFrom, mapsFrom, sectionsFrom, programsFrom, sectionCandidates, programCandidates, functionCandidates, mapCandidates, sectionNumbers, programNumbers, functionNumbers, mapNumbers, Named, firstOf, countOf, Targeted}
@@ -342,14 +344,13 @@ module _ (d t : List ℕ) (v : View) (ok : objectRefusal (objectIn d t v) ≡ no
 
     -- ---- maps
 
-    map-fits : (i j : ℕ) → i < v .sections → j < v .symbols → homeAt d t v j ≡ i → mapSymbolRefusal (sec i) (at j) ≡ none → MapFits d t v (v .sections + j)
+    map-fits : (i j : ℕ) → i < v .sections → j < v .symbols → homeAt d t v j ≡ i → mapSymbolRefusal (sec i) (at j) ≡ none → MapFits d t v (mapNumberOf (v .sections) (MapSource.Symbol j))
     unfolding mapSymbolRefusal
     map-fits i j l b q f =
-        let e : v .sections + j - v .sections ≡ j = omega arith in
         let (u, z) = orElse-none (ofSymbol 10 (sec i) (at j) (passes (sec i .bytes) (at j .address) (at j .size))) (ofSymbol 16 (sec i) (at j) (invalidMapDefinition (at j .size) (recordOf (sec i) (at j)))) f in
         let p : at j .address + at j .size ≤ length (sec i .bytes) = not-past (sec i .bytes) (at j .address) (at j .size) (refuse-none _ 10 (sec i .index) (at j .index) 0 u) in
         let w : symbolAt d t v j .address + symbolAt d t v j .size ≤ sectionAt d t v i .bytes .length = rw (data-length i, by-record j .0, by-record j .1) at p in
-        record { number = omega arith; home = λ _. rw (e, q) l; within = λ _. rw (e, q) w }
+        rw (number-source (v .sections) (MapSource.Symbol j) tt) (record { symbol = b; home = rw q l; within = rw q w })
 
     maps-refused : (i : ℕ) → mapsRefusal o (sec i) ≡ none → firstIn (mapSymbolRefusal (sec i)) (map at (members order section-list at (v .symbols) (sec i))) ≡ none
     unfolding mapsRefusal objectIn
@@ -357,22 +358,17 @@ module _ (d t : List ℕ) (v : View) (ok : objectRefusal (objectIn d t v) ≡ no
         let (a, b) = orElse-none (ofSection 9 (sec i) (isEmpty (symbolsOf o (sec i)))) (firstIn (mapSymbolRefusal (sec i)) (symbolsOf o (sec i))) e in
         ap (firstIn (mapSymbolRefusal (sec i))) (sym (symbols-by order section-list at (v .symbols) (sec i))) ∙ b
 
-    legacy-fit : (i : ℕ) → i < v .sections → isKind Kind.Maps (kindOf (sec i)) ≡ true → All (MapFits d t v) (map (λ j. v .sections + j) (members order section-list at (v .symbols) (sec i)))
+    legacy-fit : (i : ℕ) → i < v .sections → isKind Kind.Maps (kindOf (sec i)) ≡ true → All (MapFits d t v) (map (λ j. mapNumberOf (v .sections) (MapSource.Symbol j)) (members order section-list at (v .symbols) (sec i)))
     legacy-fit i l e =
         let js = members order section-list at (v .symbols) (sec i) in
         let f = maps-refused i (maps-at i l e) in
-        all-map (MapFits d t v) (λ j. v .sections + j) js
-        (all-of (λ j. MapFits d t v (v .sections + j)) js
+        all-map (MapFits d t v) (λ j. mapNumberOf (v .sections) (MapSource.Symbol j)) js
+        (all-of (λ j. MapFits d t v (mapNumberOf (v .sections) (MapSource.Symbol j))) js
         (λ j m. map-fits i j l (all-∈ (λ k. k < v .symbols) j js (members-below i) m) (all-∈ (in-section i) j js (inside order sec (v .sections) at (v .symbols) rise i l) m .home-of)
         (firstIn-none (mapSymbolRefusal (sec i)) (at j) (map at js) f (∈-map at j js m))))
 
-    data-fits : (i : ℕ) → i < v .sections → MapFits d t v i
-    data-fits i l =
-        record {
-          number = omega arith;
-          home = λ q. (let no : ⊥ = omega arith in absurd no);
-          within = λ q. (let no : ⊥ = omega arith in absurd no);
-        }
+    data-fits : (i : ℕ) → i < v .sections → MapFits d t v (mapNumberOf (v .sections) (MapSource.Section i))
+    data-fits i l = rw (number-source (v .sections) (MapSource.Section i) l) l
 
     pub maps-fit : All (MapFits d t v) (mapNumbers d t v)
     unfolding mapNumbers mapCandidates mapsIn
@@ -382,7 +378,7 @@ module _ (d t : List ℕ) (v : View) (ok : objectRefusal (objectIn d t v) ≡ no
         one i l = go (isKind Kind.Maps (kindOf (sec i))) refl (isData (kindOf (sec i)))
           where
             go : (b : Bool) → isKind Kind.Maps (kindOf (sec i)) ≡ b → (c : Bool)
-                → All (MapFits d t v) (cond b (map (λ j. v .sections + j) (members order section-list at (v .symbols) (sec i))) (cond c (i ∷ []) []))
+                → All (MapFits d t v) (cond b (map (λ j. mapNumberOf (v .sections) (MapSource.Symbol j)) (members order section-list at (v .symbols) (sec i))) (cond c (mapNumberOf (v .sections) (MapSource.Section i) ∷ []) []))
             go true e c = legacy-fit i l e
             go false e true = (data-fits i l, tt)
             go false e false = tt

@@ -16,11 +16,13 @@ use Rattle.catalogue_laws.specs.Placed.{lay-more}
 use Rattle.catalogue_laws.specs.SectionsPrograms.{All}
 use Rattle.object.specs.View.{objectIn}
 use Rattle.catalogue_numbers.specs.Numbers.{sectionNumbers, programNumbers, functionNumbers, mapNumbers}
-use Rattle.catalogue_numbers.specs.Fits.{FunctionFits, MapFits}
+use Rattle.catalogue_numbers.specs.Fits.{FunctionFits, SourceFits, MapFits}
 use Rattle.accepted_numbers.specs.Numbers.{sections-below, programs-listed as programs-below, functions-fit, maps-fit}
+use Rattle.records.specs.declared.MapSource.{MapSource}
+use Rattle.records.specs.Maps.{mapSourceOf}
 use Rattle.records.specs.Readable.{Readable}
 use Rattle.bytes_names.specs.declared.Piece.{Piece}
-use Rattle.bytes_names.specs.Inside.{Known}
+use Rattle.bytes_names.specs.Inside.{KnownSource, Known}
 use Rattle.bytes_names.specs.Pieces.{pieceOf}
 use Rattle.bytes_maps.specs.Own.{ownBytes}
 use Rattle.bytes_code.specs.Code.{codeAt, AllFit}
@@ -127,6 +129,10 @@ module _ (d t : List ℕ) (v : View) (r : Readable d t v) (ok : objectRefusal (o
   pub all-maps-fit : (k : ℕ) → k < n .maps → MapFits d t v (getD m k 0)
   all-maps-fit = all-front (MapFits d t v) (n .maps) m (held .maps-in) maps-fitting
 
+  source-known : (s : MapSource) → SourceFits d t v s → KnownSource v s
+  source-known (MapSource.Section i) e = e
+  source-known (MapSource.Symbol j) e = e .symbol
+
   -- ---- the tables
 
   listed : (part : Part) (k : ℕ) (l : List ℕ) → k ≤ length l → k ≤ 69632 → All (PartFits part d t v) (take k l) → Listed part d t v l k
@@ -149,7 +155,7 @@ module _ (d t : List ℕ) (v : View) (r : Readable d t v) (ok : objectRefusal (o
   pub maps-listed : Listed (Part.Name Piece.MapName) d t v m (n .maps)
   maps-listed =
       listed (Part.Name Piece.MapName) (n .maps) m (held .maps-in) (held .few-maps)
-      (all-weaken (MapFits d t v) (Known Piece.MapName v) (take (n .maps) m) (λ j e. e .number) maps-fitting)
+      (all-weaken (MapFits d t v) (Known Piece.MapName v) (take (n .maps) m) (λ j e. source-known (mapSourceOf (v .sections) j) e) maps-fitting)
 
   pub own-listed : Listed Part.Own d t v m (n .maps)
   own-listed = (held .maps-in, held .few-maps, r, λ k l. tt)

@@ -1,22 +1,21 @@
 -- The parts of a lent catalogue's bytes, by the numbers of its tables.
-use mathlib.Core.Bool.{Bool, true, false, cond}
 use mathlib.Core.Path.{_≡_, refl, sym, ap, _∙_}
 use mathlib.Core.List.{List}
 use mathlib.Core.Option.{none}
-use Prim.Native.Nat.{ℕ, _-_}
-use lib.Dec.{ltb}
+use Prim.Native.Nat.{ℕ}
 use Rattle.object_view.specs.declared.View.{View}
 use Rattle.model.specs.Bytes.{each}
 use Rattle.model.specs.Catalogue.{Catalogue}
-use Rattle.model.specs.Contents.{dataMap, legacyMap, licenceOf, catalogueOf, programAt as programOf, functionAt as functionOf}
+use Rattle.model.specs.Contents.{licenceOf, catalogueOf, programAt as programOf, functionAt as functionOf}
 use Rattle.model.specs.Lent.{sectionName, programName, functionName, functionCode, mapName, mapOwn}
 use Rattle.model.specs.Refusals.{objectRefusal}
 use Rattle.catalogue_laws.specs.Numbers.{each-map}
-use Rattle.catalogue_laws.specs.FunctionsMaps.{mapOf, mapName as mapKeyName}
+use Rattle.catalogue_laws.specs.FunctionsMaps.{mapName as mapKeyName, name-of-map}
 use Rattle.object.specs.View.{sectionIn, symbolIn, objectIn}
 use Rattle.catalogue_numbers.specs.Function.{function-is}
 use Rattle.catalogue_numbers.specs.Numbers.{sectionNumbers, programNumbers, functionNumbers, mapNumbers, entryAt, programAt, functionAt, mapAt, sections-by, programs-by, functions-by, maps-by}
 use Rattle.accepted_numbers.specs.Numbers.{named}
+use Rattle.records.specs.Maps.{mapSourceOf}
 use Rattle.records.specs.Readable.{Readable}
 use Rattle.bytes_names.specs.declared.Piece.{Piece}
 use Rattle.bytes_names.specs.Pieces.{pieceOf, section-piece, symbol-piece, map-piece}
@@ -53,19 +52,13 @@ module _ (d t : List ℕ) (v : View) where
     pub function-code : each functionCode (catalogue .functions) ≡ each (λ j. functionCode (functionAt d t v j)) (functionNumbers d t v)
     function-code = ap (each functionCode) (functions-by d t v r) ∙ each-map functionCode (functionAt d t v) (functionNumbers d t v)
 
-    name-of-map : (n : ℕ) → mapName (mapAt d t v n) ≡ mapKeyName (v .order) (sectionIn d t v) (v .sections) (symbolIn d t v) (v .symbols) n
-    unfolding dataMap legacyMap
-    name-of-map n = go (ltb n (v .sections))
-      where
-        go : (b : Bool) → mapName (mapOf (v .order) (sectionIn d t v) (v .sections) (symbolIn d t v) (v .symbols) b n)
-            ≡ cond b (sectionIn d t v n .name) (symbolIn d t v (n - v .sections) .name)
-        go true = refl
-        go false = refl
+    name-is : (n : ℕ) → mapName (mapAt d t v n) ≡ mapKeyName (v .order) (sectionIn d t v) (v .sections) (symbolIn d t v) (v .symbols) n
+    name-is n = name-of-map (v .order) (sectionIn d t v) (v .sections) (symbolIn d t v) (v .symbols) (mapSourceOf (v .sections) n)
 
     pub map-names : each mapName (catalogue .maps) ≡ each (pieceOf Piece.MapName d t v) (mapNumbers d t v)
     map-names =
         ap (each mapName) (maps-by d t v r) ∙ each-map mapName (mapAt d t v) (mapNumbers d t v)
-        ∙ ap (λ (g : ℕ → List ℕ). each g (mapNumbers d t v)) (λ k n. (name-of-map n ∙ sym (map-piece d t v n)) k)
+        ∙ ap (λ (g : ℕ → List ℕ). each g (mapNumbers d t v)) (λ k n. (name-is n ∙ sym (map-piece d t v n)) k)
 
     pub map-own : each mapOwn (catalogue .maps) ≡ each (λ n. mapOwn (mapAt d t v n)) (mapNumbers d t v)
     map-own = ap (each mapOwn) (maps-by d t v r) ∙ each-map mapOwn (mapAt d t v) (mapNumbers d t v)

@@ -2,11 +2,8 @@
 use mathlib.Core.Path.{_≡_, refl, ap, _∙_}
 use mathlib.Core.Bool.{Bool, true, false, cond}
 use mathlib.Core.List.{List, [], _++_}
-use mathlib.Core.Logic.{_⊎_, inl, inr, ⊎-elim}
 use Prim.Native.Nat.{ℕ, _+_, _-_, _<_, _≤_}
 use native.Mathlib.Omega.{arith}
-use borrow.Author.Tests.{lt-ltb, le-ltb, ltb-true}
-use lib.Dec.{ltb}
 use lib.ListN.{length, take, drop, replicate, length-replicate}
 use lib.Seq.{drop-drop}
 use Rattle.lists.specs.Part.{length-part}
@@ -18,7 +15,9 @@ use Rattle.model.specs.Contents.{dataMap, legacyMap}
 use Rattle.model.specs.Lent.{mapOwn}
 use Rattle.model.specs.SectionKind.{isKind, kindOf}
 use Rattle.stream.specs.Stream.{length-bytes}
+use Rattle.records.specs.declared.MapSource.{MapSource}
 use Rattle.records.specs.View.{gapOf, sectionAt, dataIn}
+use Rattle.records.specs.Maps.{mapSourceOf, SourceIn, source-in}
 use Rattle.records.specs.Readable.{DataFits, Readable}
 use Rattle.catalogue_laws.specs.FunctionsMaps.{mapOf}
 use Rattle.object.specs.View.{sectionFrom, sectionIn, symbolIn}
@@ -29,11 +28,13 @@ module _ (d t : List ℕ) (v : View) where
   abbrev pub ownBytes : ℕ → List ℕ
   ownBytes n = mapOwn (mapAt d t v n)
 
+  abbrev pub sourceOwn : MapSource → Own
+  sourceOwn (MapSource.Section i) =
+      cond (isKind Kind.Bss (kindOf (sectionIn d t v i))) (Own.Zeros (sectionAt d t v i .size)) (Own.Bytes (sectionAt d t v i .bytes))
+  sourceOwn (MapSource.Symbol j) = Own.Nothing
+
   unfoldable pub ownOf : ℕ → Own
-  ownOf n =
-      cond (ltb n (v .sections))
-      (cond (isKind Kind.Bss (kindOf (sectionIn d t v n))) (Own.Zeros (sectionAt d t v n .size)) (Own.Bytes (sectionAt d t v n .bytes)))
-      Own.Nothing
+  ownOf n = sourceOwn (mapSourceOf (v .sections) n)
 
   abbrev pub bytesIn : Own → List ℕ
   bytesIn Own.Nothing = []
@@ -42,27 +43,22 @@ module _ (d t : List ℕ) (v : View) where
 
   pub own-is : (n : ℕ) → ownBytes n ≡ bytesIn (ownOf n)
   unfolding ownOf dataMap legacyMap sectionFrom
-  own-is n = go (ltb n (v .sections))
+  own-is n = go (mapSourceOf (v .sections) n)
     where
-      of-section : (b : Bool) → cond b (replicate (sectionAt d t v n .size) 0) (dataIn d v (sectionAt d t v n .bytes))
-          ≡ bytesIn (cond b (Own.Zeros (sectionAt d t v n .size)) (Own.Bytes (sectionAt d t v n .bytes)))
-      of-section true = refl
-      of-section false = refl
+      of-section : (i : ℕ) (b : Bool) → cond b (replicate (sectionAt d t v i .size) 0) (dataIn d v (sectionAt d t v i .bytes))
+          ≡ bytesIn (cond b (Own.Zeros (sectionAt d t v i .size)) (Own.Bytes (sectionAt d t v i .bytes)))
+      of-section i true = refl
+      of-section i false = refl
 
-      go : (b : Bool) → mapOwn (mapOf (v .order) (sectionIn d t v) (v .sections) (symbolIn d t v) (v .symbols) b n)
-          ≡ bytesIn (cond b (cond (isKind Kind.Bss (kindOf (sectionIn d t v n))) (Own.Zeros (sectionAt d t v n .size)) (Own.Bytes (sectionAt d t v n .bytes))) Own.Nothing)
-      go true = of-section (isKind Kind.Bss (kindOf (sectionIn d t v n)))
-      go false = refl
+      go : (s : MapSource) → mapOwn (mapOf (v .order) (sectionIn d t v) (v .sections) (symbolIn d t v) (v .symbols) s) ≡ bytesIn (sourceOwn s)
+      go (MapSource.Section i) = of-section i (isKind Kind.Bss (kindOf (sectionIn d t v i)))
+      go (MapSource.Symbol j) = refl
 
   -- what a section's record says of it
-  pub section-own : (n : ℕ) (s : SectionRecord) (k : Kind) (b : Bool) → n < v .sections → s ≡ sectionAt d t v n → k ≡ kindOf (sectionFrom d t v s)
-      → b ≡ isKind Kind.Bss k → cond b (Own.Zeros (s .size)) (Own.Bytes (s .bytes)) ≡ ownOf n
+  pub section-own : (n i : ℕ) (s : SectionRecord) (k : Kind) (b : Bool) → mapSourceOf (v .sections) n ≡ MapSource.Section i → s ≡ sectionAt d t v i
+      → k ≡ kindOf (sectionFrom d t v s) → b ≡ isKind Kind.Bss k → cond b (Own.Zeros (s .size)) (Own.Bytes (s .bytes)) ≡ ownOf n
   unfolding ownOf
-  section-own n s k b l e f g = rw (lt-ltb n (v .sections) l, g, f, e)
-
-  pub symbol-own : (n : ℕ) → v .sections ≤ n → Own.Nothing ≡ ownOf n
-  unfolding ownOf
-  symbol-own n l = rw (le-ltb n (v .sections) l)
+  section-own n i s k b m e f g = rw (m, g, f, e)
 
   -- ---- what it owns is known
 
@@ -82,39 +78,31 @@ module _ (d t : List ℕ) (v : View) where
     pub data-length : (x : Extent) → Own.Bytes x ≡ ownOf n → length (ownBytes n) ≡ x .length
     data-length x e = ap length (data-bytes x e) ∙ length-bytes d (gapOf v) (v .at .bytes + x .at) (x .length)
 
-    -- a map that owns anything is a section's
-    section-owns : (w : Own) → w ≡ ownOf n → (w ≡ Own.Nothing → ⊥) → n < v .sections
+    -- what holds of nothing, and of what each section's map can own, holds of it
+    own-cases : (P : Own → Type 0) → P Own.Nothing
+        → ((i : ℕ) → i < v .sections → P (Own.Zeros (sectionAt d t v i .size)) × P (Own.Bytes (sectionAt d t v i .bytes))) → P (ownOf n)
     unfolding ownOf
-    section-owns w e some = go (ltb n (v .sections)) refl e
+    own-cases P none some = go (mapSourceOf (v .sections) n) (source-in (v .sections) n)
       where
-        go : (b : Bool) → ltb n (v .sections) ≡ b
-            → w ≡ cond b (cond (isKind Kind.Bss (kindOf (sectionIn d t v n))) (Own.Zeros (sectionAt d t v n .size)) (Own.Bytes (sectionAt d t v n .bytes))) Own.Nothing
-            → n < v .sections
-        go true q f = ltb-true _ _ q
-        go false q f = absurd (some f)
+        of-section : (i : ℕ) (b : Bool) → i < v .sections → P (cond b (Own.Zeros (sectionAt d t v i .size)) (Own.Bytes (sectionAt d t v i .bytes)))
+        of-section i true l = some i l .0
+        of-section i false l = some i l .1
 
-    one-of : n < v .sections → (w : Own) → w ≡ ownOf n → (w ≡ Own.Zeros (sectionAt d t v n .size)) ⊎ (w ≡ Own.Bytes (sectionAt d t v n .bytes))
-    unfolding ownOf
-    one-of l w e = go (isKind Kind.Bss (kindOf (sectionIn d t v n))) (e ∙ rw (lt-ltb n (v .sections) l))
-      where
-        go : (b : Bool) → w ≡ cond b (Own.Zeros (sectionAt d t v n .size)) (Own.Bytes (sectionAt d t v n .bytes))
-            → (w ≡ Own.Zeros (sectionAt d t v n .size)) ⊎ (w ≡ Own.Bytes (sectionAt d t v n .bytes))
-        go true f = inl f
-        go false f = inr f
+        go : (s : MapSource) → SourceIn (v .sections) s → P (sourceOwn s)
+        go (MapSource.Section i) l = of-section i (isKind Kind.Bss (kindOf (sectionIn d t v i))) l
+        go (MapSource.Symbol j) l = none
 
     -- of a view that is readable
     module _ (r : Readable d t v) where
       pub zeros-small : (m : ℕ) → Own.Zeros m ≡ ownOf n → m ≤ 16777216
-      zeros-small m e =
-          let l = section-owns (Own.Zeros m) e (λ q. let z : _≡_ {A = ℕ} 0 1 = cc in omega arith) in
-          ⊎-elim (λ q. let f : m ≡ sectionAt d t v n .size = cc in rw f (r .section-size n l)) (λ q. let z : _≡_ {A = ℕ} 0 1 = cc in absurd (omega arith))
-          (one-of l (Own.Zeros m) e)
+      zeros-small m =
+          own-cases (λ w. Own.Zeros m ≡ w → m ≤ 16777216) (λ q. let z : _≡_ {A = ℕ} 0 1 = cc in absurd (omega arith))
+          (λ i l. (λ q. let f : m ≡ sectionAt d t v i .size = cc in rw f (r .section-size i l), λ q. let z : _≡_ {A = ℕ} 0 1 = cc in absurd (omega arith)))
 
       pub data-fits : (x : Extent) → Own.Bytes x ≡ ownOf n → DataFits d v x
-      data-fits x e =
-          let l = section-owns (Own.Bytes x) e (λ q. let z : _≡_ {A = ℕ} 0 1 = cc in omega arith) in
-          ⊎-elim (λ q. let z : _≡_ {A = ℕ} 0 1 = cc in absurd (omega arith)) (λ q. let f : x ≡ sectionAt d t v n .bytes = cc in rw f (r .section-data n l))
-          (one-of l (Own.Bytes x) e)
+      data-fits x =
+          own-cases (λ w. Own.Bytes x ≡ w → DataFits d v x) (λ q. let z : _≡_ {A = ℕ} 0 1 = cc in absurd (omega arith))
+          (λ i l. (λ q. let z : _≡_ {A = ℕ} 0 1 = cc in absurd (omega arith), λ q. let f : x ≡ sectionAt d t v i .bytes = cc in rw f (r .section-data i l)))
 
 -- zeros over a part of a list
 pub zeros-laid : (at len : ℕ) (t ys : List ℕ) → at + len ≤ length t → ys ≡ replicate (length (take (at + len - at) (drop at t))) 0

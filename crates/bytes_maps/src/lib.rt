@@ -10,8 +10,10 @@ use lists::zero8;
 use model::Extent;
 use object::kind_of;
 use object_view::View;
+use records::MapSource;
 use records::data_place;
 use records::gap;
+use records::map_source;
 use records::section;
 use section_kind::is_bss;
 use stream::size;
@@ -23,20 +25,21 @@ pub enum Own {
     Bytes(Extent),
 }
 
-// A number below the count of sections is a section's; a symbol's map owns nothing.
+// What map number n owns: a symbol's owns nothing.
 fn own_of(d: &[u8], t: &[u32], v: View, n: u32) -> Own
     ensures { λ r. ⌜ r ≡ ownOf (now (d .entry)) (now (t .entry)) v n ⌝ }
 {
-    if n < v.sections {
-        let s = section(d, t, v, n);
-        if is_bss(kind_of(d, t, v, s)) {
-            Own::Zeros(s.size as usize)
-        } else {
-            let bytes = s.bytes;
-            Own::Bytes(bytes)
+    match map_source(v, n) {
+        MapSource::Section(i) => {
+            let s = section(d, t, v, i);
+            if is_bss(kind_of(d, t, v, s)) {
+                Own::Zeros(s.size as usize)
+            } else {
+                let bytes = s.bytes;
+                Own::Bytes(bytes)
+            }
         }
-    } else {
-        Own::Nothing
+        MapSource::Symbol(_) => Own::Nothing,
     }
 }
 

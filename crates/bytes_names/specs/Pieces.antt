@@ -1,23 +1,22 @@
--- The name that a record number stands for.
+-- The name that a number stands for.
 use mathlib.Core.Path.{_≡_, refl}
-use mathlib.Core.Bool.{Bool, true, false, cond}
 use mathlib.Core.List.{List}
-use Prim.Native.Nat.{ℕ, _+_, _-_, _≤_}
-use lib.Dec.{ltb}
+use Prim.Native.Nat.{ℕ, _+_, _≤_}
 use lib.ListN.{length}
 use Rattle.model.specs.declared.Extent.{Extent}
 use Rattle.object_view.specs.declared.View.{View}
 use Rattle.stream.specs.Stream.{place, bytesAt, length-bytes}
+use Rattle.records.specs.declared.MapSource.{MapSource}
 use Rattle.records.specs.View.{gapOf, sectionAt, symbolAt, nameIn}
-use Rattle.catalogue_laws.specs.FunctionsMaps.{mapName}
+use Rattle.records.specs.Maps.{mapSourceOf, sourceName as nameAt, mapNameAt}
+use Rattle.catalogue_laws.specs.FunctionsMaps.{sourceName, mapName}
 use Rattle.object.specs.View.{sectionFrom, symbolFrom, sectionIn, symbolIn}
 use Rattle.bytes_names.specs.declared.Piece.{Piece}
 
--- a map's number is a section's or, from the number of sections on, a symbol's
 unfoldable pub extentOf : Piece → List ℕ → List ℕ → View → ℕ → Extent
 extentOf Piece.SectionName d t v j = sectionAt d t v j .name
 extentOf Piece.SymbolName d t v j = symbolAt d t v j .name
-extentOf Piece.MapName d t v j = cond (ltb j (v .sections)) (sectionAt d t v j .name) (symbolAt d t v (j - v .sections) .name)
+extentOf Piece.MapName d t v j = mapNameAt d t v j
 
 -- its bytes
 abbrev pub pieceOf : Piece → List ℕ → List ℕ → View → ℕ → List ℕ
@@ -34,13 +33,12 @@ module _ (d t : List ℕ) (v : View) (j : ℕ) where
   symbol-piece = refl
 
   pub map-piece : pieceOf Piece.MapName d t v j ≡ mapName (v .order) (sectionIn d t v) (v .sections) (symbolIn d t v) (v .symbols) j
-  unfolding extentOf sectionFrom symbolFrom
-  map-piece = go (ltb j (v .sections))
+  unfolding extentOf mapNameAt sectionFrom symbolFrom
+  map-piece = go (mapSourceOf (v .sections) j)
     where
-      go : (b : Bool) → nameIn d v (cond b (sectionAt d t v j .name) (symbolAt d t v (j - v .sections) .name))
-          ≡ cond b (sectionIn d t v j .name) (symbolIn d t v (j - v .sections) .name)
-      go true = refl
-      go false = refl
+      go : (s : MapSource) → nameIn d v (nameAt d t v s) ≡ sourceName (v .order) (sectionIn d t v) (v .sections) (symbolIn d t v) (v .symbols) s
+      go (MapSource.Section i) = refl
+      go (MapSource.Symbol k) = refl
 
 -- they lie inside the stream
 abbrev pub Placed : Piece → List ℕ → List ℕ → View → ℕ → Type 0

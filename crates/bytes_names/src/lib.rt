@@ -9,13 +9,14 @@ use lists::copy8;
 use model::Extent;
 use object_view::View;
 use records::gap;
+use records::map_name;
 use records::name_at;
 use records::section_name;
 use records::symbol_name;
 use stream::Run;
 use stream::size;
 
-// Which name a record number stands for: that of a section, of a symbol, or of a map, whose number is a section's or, from `sections` on, a symbol's.
+// Which name a number stands for: that of a section, of a symbol, or of a map.
 pub enum Piece {
     SectionName,
     SymbolName,
@@ -55,14 +56,7 @@ pub fn extent(d: &[u8], t: &[u32], v: View, which: Piece, j: u32) -> Extent
     match which {
         Piece::SectionName => section_name(d, t, v, j),
         Piece::SymbolName => symbol_name(d, t, v, j),
-        Piece::MapName => {
-            let sections = v.sections;
-            if j < sections {
-                section_name(d, t, v, j)
-            } else {
-                symbol_name(d, t, v, j - sections)
-            }
-        }
+        Piece::MapName => map_name(d, t, v, j),
     }
 }
 

@@ -4,9 +4,9 @@ use mathlib.Core.Bool.{Bool, true, false, cond}
 use mathlib.Core.List.{List, [], _∷_, _++_, map}
 use mathlib.Core.Logic.{inl, inr}
 use mathlib.Core.Option.{Option, none, some}
-use Prim.Native.Nat.{ℕ, zero, suc, _+_, _-_, _<_}
+use Prim.Native.Nat.{ℕ, zero, suc, _+_, _<_}
 use native.Mathlib.Omega.{arith}
-use borrow.Author.Tests.{eqb-true, lt-ltb, le-ltb}
+use borrow.Author.Tests.{eqb-true}
 use lib.Dec.{eqb, leb, ltb}
 use lib.ListN.{length}
 use Rattle.lists.specs.Tab.{tab, rows}
@@ -22,6 +22,8 @@ use Rattle.model.specs.Catalogue.{Function, Map, functionKey, mapKey}
 use Rattle.model.specs.Symbols.{top, liesIn, symbolsOf, programSymbols, walkOf}
 use Rattle.model.specs.Contents.{programFunction, functionAt, textFunction, functionsOf, legacyMap, dataMap, isData, mapsOf, catalogueOf}
 use Rattle.orders.specs.Sort.{pick, insert, sorted}
+use Rattle.records.specs.declared.MapSource.{MapSource}
+use Rattle.records.specs.Maps.{mapNumberOf, mapSourceOf, number-source}
 use Rattle.catalogue_laws.specs.Numbers.{each-tab}
 use Rattle.catalogue_laws.specs.Tables.{table-map, table-on}
 use Rattle.catalogue_laws.specs.Shared.{byAddress}
@@ -195,31 +197,32 @@ module _ (e : Endianness) (sec : ℕ → Section) (S : ℕ) (at : ℕ → Symbol
       all : All Listed (rows functionsIn S)
       all = all-rows Listed functionsIn S (λ i l. as-listed i (functionsIn i) (listed-in rise i l))
 
-  -- ---- maps: a number below S is a section's, else a symbol's
+  -- ---- maps, by what they are made from
 
   unfoldable pub mapsIn : ℕ → List ℕ
   mapsIn i =
-      cond (isKind Kind.Maps (kindOf (sec i))) (map (λ j. S + j) (members e (tab sec S) at Y (sec i)))
-      (cond (isData (kindOf (sec i))) (i ∷ []) [])
+      cond (isKind Kind.Maps (kindOf (sec i))) (map (λ j. mapNumberOf S (MapSource.Symbol j)) (members e (tab sec S) at Y (sec i)))
+      (cond (isData (kindOf (sec i))) (mapNumberOf S (MapSource.Section i) ∷ []) [])
 
-  abbrev pub mapOf : Bool → ℕ → Map
-  mapOf true n = dataMap (kindOf (sec n)) (sec n)
-  mapOf false n = legacyMap (sec (home e sec S at Y (n - S))) (at (n - S))
+  abbrev pub mapOf : MapSource → Map
+  mapOf (MapSource.Section i) = dataMap (kindOf (sec i)) (sec i)
+  mapOf (MapSource.Symbol j) = legacyMap (sec (home e sec S at Y j)) (at j)
 
   abbrev pub mapIn : ℕ → Map
-  mapIn n = mapOf (ltb n S) n
+  mapIn n = mapOf (mapSourceOf S n)
 
   -- its name
-  abbrev pub mapName : ℕ → List ℕ
-  mapName n = cond (ltb n S) (sec n .name) (at (n - S) .name)
+  abbrev pub sourceName : MapSource → List ℕ
+  sourceName (MapSource.Section i) = sec i .name
+  sourceName (MapSource.Symbol j) = at j .name
 
-  map-key : (n : ℕ) → mapKey (mapIn n) ≡ mapName n
+  abbrev pub mapName : ℕ → List ℕ
+  mapName n = sourceName (mapSourceOf S n)
+
+  pub name-of-map : (s : MapSource) → mapKey (mapOf s) ≡ sourceName s
   unfolding dataMap legacyMap
-  map-key n = go (ltb n S)
-    where
-      go : (b : Bool) → mapKey (mapOf b n) ≡ cond b (sec n .name) (at (n - S) .name)
-      go true = refl
-      go false = refl
+  name-of-map (MapSource.Section i) = refl
+  name-of-map (MapSource.Symbol j) = refl
 
   maps-in : Rising e sec S at Y → (i : ℕ) → i < S → mapsOf (whole e sec S at Y) (sec i) ≡ map mapIn (mapsIn i)
   unfolding mapsOf mapsIn
@@ -228,19 +231,19 @@ module _ (e : Endianness) (sec : ℕ → Section) (S : ℕ) (at : ℕ → Symbol
       o : Object
       o = whole e sec S at Y
 
-      legacy : (j : ℕ) → Inside i j → legacyMap (sec i) (at j) ≡ mapIn (S + j)
-      legacy j h =
-          let q : S + j - S ≡ j = omega arith in
-          let t : ltb (S + j) S ≡ false = le-ltb (S + j) S (omega arith) in
-          rw (t, q, h .home-of)
+      numberOf : ℕ → ℕ
+      numberOf j = mapNumberOf S (MapSource.Symbol j)
+
+      legacy : (j : ℕ) → Inside i j → legacyMap (sec i) (at j) ≡ mapIn (numberOf j)
+      legacy j h = rw (number-source S (MapSource.Symbol j) tt, h .home-of)
 
       go : (b c : Bool) → cond b (map (legacyMap (sec i)) (symbolsOf o (sec i))) (cond c (dataMap (kindOf (sec i)) (sec i) ∷ []) [])
-          ≡ map mapIn (cond b (map (λ j. S + j) (members e (tab sec S) at Y (sec i))) (cond c (i ∷ []) []))
+          ≡ map mapIn (cond b (map numberOf (members e (tab sec S) at Y (sec i))) (cond c (mapNumberOf S (MapSource.Section i) ∷ []) []))
       go true c =
           ap (map (legacyMap (sec i))) (symbols-by e (tab sec S) at Y (sec i)) ∙ map-map (legacyMap (sec i)) at (members e (tab sec S) at Y (sec i))
-          ∙ map-on (Inside i) (λ j. legacyMap (sec i) (at j)) (λ j. mapIn (S + j)) (members e (tab sec S) at Y (sec i)) (inside rise i l) legacy
-          ∙ sym (map-map mapIn (λ j. S + j) (members e (tab sec S) at Y (sec i)))
-      go false true = rw (lt-ltb i S l)
+          ∙ map-on (Inside i) (λ j. legacyMap (sec i) (at j)) (λ j. mapIn (numberOf j)) (members e (tab sec S) at Y (sec i)) (inside rise i l) legacy
+          ∙ sym (map-map mapIn numberOf (members e (tab sec S) at Y (sec i)))
+      go false true = rw (number-source S (MapSource.Section i) l)
       go false false = refl
 
   pub maps-are : Rising e sec S at Y → catalogueOf (whole e sec S at Y) .maps ≡ map mapIn (tableOf mapName (rows mapsIn S))
@@ -248,4 +251,4 @@ module _ (e : Endianness) (sec : ℕ → Section) (S : ℕ) (at : ℕ → Symbol
   maps-are rise =
       ap (tableOf mapKey) (each-tab (mapsOf (whole e sec S at Y)) sec S ∙ rows-ext _ _ S (maps-in rise) ∙ rows-map mapIn mapsIn S)
       ∙ table-map mapKey mapIn (rows mapsIn S)
-      ∙ ap (map mapIn) (table-on (λ n. mapKey (mapIn n)) mapName (rows mapsIn S) (λ n m. map-key n))
+      ∙ ap (map mapIn) (table-on (λ n. mapKey (mapIn n)) mapName (rows mapsIn S) (λ n m. name-of-map (mapSourceOf S n)))

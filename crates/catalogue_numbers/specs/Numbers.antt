@@ -1,9 +1,8 @@
 -- The record numbers of each table of the catalogue, and what a number stands for.
 use mathlib.Core.Path.{_≡_, refl, sym, ap, _∙_}
-use mathlib.Core.Bool.{Bool, true, false, cond}
+use mathlib.Core.Bool.{Bool, true}
 use mathlib.Core.List.{List, [], _∷_, map}
-use Prim.Native.Nat.{ℕ, _+_, _-_, _<_}
-use lib.Dec.{ltb}
+use Prim.Native.Nat.{ℕ, _+_, _<_}
 use Rattle.lists.specs.Tab.{rows}
 use Rattle.model.specs.declared.Endianness.{Endianness}
 use Rattle.object_view.specs.declared.View.{View}
@@ -15,14 +14,16 @@ use Rattle.model.specs.ProgramName.{programOf}
 use Rattle.model.specs.SectionKind.{isKind, kindOf}
 use Rattle.model.specs.Table.{tableOf}
 use Rattle.catalogue_laws.specs.ByNumber.{rawSection}
-use Rattle.catalogue_laws.specs.FunctionsMaps.{functionsIn, functionIn, functions-are, mapsIn, mapIn, mapName, maps-are}
+use Rattle.catalogue_laws.specs.FunctionsMaps.{functionsIn, functionIn, functions-are, mapsIn, mapIn, sourceName, mapName, maps-are}
 use Rattle.catalogue_laws.specs.Relocations.{keeps, relocationsIn, relocations-are}
 use Rattle.catalogue_laws.specs.SectionsPrograms.{home, sectionsIn, entryIn, sections-are, programsIn, programIn, programs-are}
+use Rattle.records.specs.declared.MapSource.{MapSource}
 use Rattle.records.specs.View.{nameIn, sectionAt, symbolAt}
+use Rattle.records.specs.Maps.{mapSourceOf, sourceName as nameAt, mapNameAt}
 use Rattle.records.specs.Readable.{Readable}
 use Rattle.object.specs.View.{sectionFrom, symbolFrom, sectionIn, symbolIn, relocIn, objectIn, rising}
 use Rattle.record_keys.specs.declared.By.{By}
-use Rattle.record_keys.specs.Keys.{keyOf, mapNameAt}
+use Rattle.record_keys.specs.Keys.{keyOf}
 use Rattle.symbol_groups.specs.Cut.{raw-is}
 
 module _ (d t : List ℕ) (v : View) where
@@ -44,7 +45,6 @@ module _ (d t : List ℕ) (v : View) where
   abbrev pub functionsFrom : ℕ → List ℕ
   functionsFrom = functionsIn order (sectionIn d t v) (v .sections) (symbolIn d t v) (v .symbols)
 
-  -- a number below the count of sections is a section's, else a symbol's
   abbrev pub mapsFrom : ℕ → List ℕ
   mapsFrom = mapsIn order (sectionIn d t v) (v .sections) (symbolIn d t v) (v .symbols)
 
@@ -108,12 +108,11 @@ module _ (d t : List ℕ) (v : View) where
 
   map-name-key : keyOf By.MapName d t v ≡ mapName order (sectionIn d t v) (v .sections) (symbolIn d t v) (v .symbols)
   unfolding keyOf mapNameAt sectionFrom symbolFrom
-  map-name-key = λ k n. go n (ltb n (v .sections)) k
+  map-name-key = λ k n. go (mapSourceOf (v .sections) n) k
     where
-      go : (n : ℕ) (b : Bool)
-          → nameIn d v (cond b (sectionAt d t v n .name) (symbolAt d t v (n - v .sections) .name)) ≡ cond b (sectionIn d t v n .name) (symbolIn d t v (n - v .sections) .name)
-      go n true = refl
-      go n false = refl
+      go : (s : MapSource) → nameIn d v (nameAt d t v s) ≡ sourceName order (sectionIn d t v) (v .sections) (symbolIn d t v) (v .symbols) s
+      go (MapSource.Section i) = refl
+      go (MapSource.Symbol j) = refl
 
   -- ---- the catalogue's tables
 

@@ -16,13 +16,15 @@ use Rattle.model.specs.Refusals.{refuse, mapSymbolRefusal}
 use Rattle.model.specs.Symbols.{top}
 use Rattle.stream.specs.Stream.{bytesAt}
 use Rattle.stream.specs.Laws.{part-bytes}
+use Rattle.records.specs.declared.MapSource.{MapSource}
 use Rattle.records.specs.View.{gapOf, symbolAt, dataIn}
+use Rattle.records.specs.Maps.{mapNumberOf}
 use Rattle.object.specs.Group.{pastData, past-by-record, faultOf, fault-some}
 use Rattle.object.specs.View.{sectionFrom, symbolFrom}
 
--- a map's number is its symbol's, counted on from the sections
+-- the numbers of the maps that symbols are
 abbrev pub mapNumbers : ℕ → List ℕ → List ℕ
-mapNumbers sections js = map (λ j. sections + j) js
+mapNumbers sections js = map (λ j. mapNumberOf sections (MapSource.Symbol j)) js
 
 module _ (d : List ℕ) (v : View) (s : SectionRecord) where
   unfoldable pub mapFault : SymbolRecord → ℕ

@@ -14,6 +14,8 @@ use model::SectionRecord;
 use model::SymbolRecord;
 use object::Checked;
 use object_view::View;
+use records::MapSource;
+use records::map_number;
 use stream::wide64;
 
 // What refuses a map's symbol: 10 or 16, else 0. No sum is made before 10 is ruled out, so none can wrap.
@@ -87,7 +89,7 @@ pub fn parse_maps_section(
     }
 }
 
-// Appends the numbers of a group's maps to the first w of out: symbols are counted on from the sections.
+// Appends the numbers of the maps that a group's symbols are to the first w of out.
 pub fn map_numbers(
     sections: u32,
     order: &[u32],
@@ -109,7 +111,8 @@ pub fn map_numbers(
     let mut n = w;
     let mut i = lo;
     while i < hi {
-        out[n] = sections + order[i];
+        let j = order[i];
+        out[n] = map_number(sections, MapSource::Symbol(j));
         n += 1;
         i += 1;
     }

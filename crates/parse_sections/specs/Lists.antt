@@ -12,7 +12,9 @@ use Rattle.object_view.specs.declared.View.{View}
 use Rattle.catalogue_laws.specs.FunctionsMaps.{functionsIn, mapsIn}
 use Rattle.catalogue_laws.specs.Groups.{Laid}
 use Rattle.catalogue_laws.specs.SectionsPrograms.{sectionsIn, programsIn}
+use Rattle.records.specs.declared.MapSource.{MapSource}
 use Rattle.records.specs.View.{sectionAt}
+use Rattle.records.specs.Maps.{mapNumberOf}
 use Rattle.object.specs.Group.{membersIn}
 use Rattle.object.specs.View.{sectionIn}
 use Rattle.catalogue_numbers.specs.Numbers.{sectionsFrom, programsFrom, functionsFrom, mapsFrom}
@@ -26,9 +28,10 @@ sectionsOf k i = cond (isKind Kind.BtfExt k) [] (i ∷ [])
 unfoldable pub programsOf : Kind → List ℕ → List ℕ
 programsOf k fs = cond (isKind Kind.Program k) fs []
 
--- the maps, where its symbols are js: a symbol is counted on from the sections
+-- the maps, where its symbols are js
 unfoldable pub mapsOf : ℕ → Kind → ℕ → List ℕ → List ℕ
-mapsOf count k i js = cond (isKind Kind.Maps k) (map (λ j. count + j) js) (cond (isData k) (i ∷ []) [])
+mapsOf count k i js =
+    cond (isKind Kind.Maps k) (map (λ j. mapNumberOf count (MapSource.Symbol j)) js) (cond (isData k) (mapNumberOf count (MapSource.Section i) ∷ []) [])
 
 pub few-sections : (k : Kind) (i : ℕ) → length (sectionsOf k i) ≤ 1
 unfolding sectionsOf
@@ -50,7 +53,7 @@ pub few-maps : (count : ℕ) (k : Kind) (i : ℕ) (js : List ℕ) → length (ma
 unfolding mapsOf
 few-maps count k i js = go (isKind Kind.Maps k) (isData k)
   where
-    go : (b c : Bool) → length (cond b (map (λ j. count + j) js) (cond c (i ∷ []) [])) ≤ 1 + length js
+    go : (b c : Bool) → length (cond b (map (λ j. mapNumberOf count (MapSource.Symbol j)) js) (cond c (mapNumberOf count (MapSource.Section i) ∷ []) [])) ≤ 1 + length js
     go true c = rw length-map (omega arith)
     go false true = omega arith
     go false false = omega arith

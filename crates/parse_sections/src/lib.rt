@@ -33,7 +33,9 @@ use parse_first::LicenseAt;
 use parse_text::ParsedText;
 use record_keys::By;
 use records::Cursor;
+use records::MapSource;
 use records::Step;
+use records::map_number;
 use stream::size;
 
 // How many record numbers there are for each table; where the licence stands, and the version.
@@ -307,7 +309,7 @@ fn list_maps(
     match kind {
         EbpfSectionKind::Maps => parse_maps::map_numbers(sections, order, lo, hi, out, w),
         EbpfSectionKind::Bss | EbpfSectionKind::Data | EbpfSectionKind::Rodata => {
-            out[w] = i;
+            out[w] = map_number(sections, MapSource::Section(i));
             w + 1
         }
         _ => w,

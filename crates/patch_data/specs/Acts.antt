@@ -28,7 +28,9 @@ use Rattle.model.specs.Symbols.{top, liesIn}
 use Rattle.catalogue_laws.specs.FunctionsMaps.{mapOf}
 use Rattle.catalogue_laws.specs.Numbers.{each-map}
 use Rattle.catalogue_laws.specs.Placed.{each-room, length-joined}
+use Rattle.records.specs.declared.MapSource.{MapSource}
 use Rattle.records.specs.View.{symbolAt}
+use Rattle.records.specs.Maps.{mapSourceOf}
 use Rattle.object.specs.View.{sectionIn, symbolIn, symbolFrom, objectIn}
 use Rattle.catalogue_numbers.specs.Numbers.{mapAt}
 use Rattle.catalogue_numbers.specs.Fits.{MapFits}
@@ -39,7 +41,7 @@ use Rattle.patch_maps.specs.Places.{mapHome}
 use Rattle.patch_maps.specs.Found.{placeOf}
 use Rattle.patch_checks.specs.Entries.{countOf, patchAt, patches-are}
 use Rattle.patch_checks.specs.Checks.{past, mapsOf, Sited, faultOf, refused-22, mapped, map-at, place-below, by-own, not-inside, other-mark, by-bearer}
-use Rattle.patch_data.specs.Alone.{Alone}
+use Rattle.patch_data.specs.Alone.{IsSection, Alone}
 use Rattle.patch_data.specs.Patched.{reach, patchedMap, patchedMaps, none-patched, same-section, same-length, patched-more}
 use Rattle.patch_data.specs.Region.{each-length, each-kept, each-sets, own-place}
 
@@ -81,13 +83,13 @@ module _ (d t : List ℕ) (v : View) where
   unfolding patchedMaps
   own-by ps ns = each-map mapOwn (patchedMap (objectIn d t v) ps) (map (mapAt d t v) ns) ∙ each-map (λ m. mapOwn (patchedMap (objectIn d t v) ps m)) (mapAt d t v) ns
 
-  own-section : (k : ℕ) → 0 < length (ownBytes d t v k) → k < v .sections
+  own-section : (k : ℕ) → 0 < length (ownBytes d t v k) → IsSection (mapSourceOf (v .sections) k)
   unfolding legacyMap
-  own-section k l = go (ltb k (v .sections)) refl l
+  own-section k l = go (mapSourceOf (v .sections) k) l
     where
-      go : (b : Bool) → ltb k (v .sections) ≡ b → 0 < length (mapOwn (mapOf (v .order) (sectionIn d t v) (v .sections) (symbolIn d t v) (v .symbols) b k)) → k < v .sections
-      go true t q = ltb-true k (v .sections) t
-      go false t q = let no : ⊥ = omega arith in absurd no
+      go : (s : MapSource) → 0 < length (mapOwn (mapOf (v .order) (sectionIn d t v) (v .sections) (symbolIn d t v) (v .symbols) s)) → IsSection s
+      go (MapSource.Section i) q = tt
+      go (MapSource.Symbol j) q = let no : ⊥ = omega arith in absurd no
 
   -- ---- what acceptance says of an entry
 

@@ -3,10 +3,10 @@ use mathlib.Core.Path.{_≡_, refl, sym, ap, _∙_}
 use mathlib.Core.Bool.{Bool, true, false, cond}
 use mathlib.Core.List.{List, [], _∷_, map}
 use mathlib.Core.Logic.{inl, inr}
-use Prim.Native.Nat.{ℕ, zero, suc, _+_, _-_, _<_, _≤_}
+use Prim.Native.Nat.{ℕ, zero, suc, _<_, _≤_}
 use native.Mathlib.Nat.{not-suc-le-zero, le-of-suc-le-suc}
 use native.Mathlib.Omega.{arith}
-use borrow.Author.Tests.{ltb-true, ltb-false, lt-ltb, le-ltb}
+use borrow.Author.Tests.{ltb-true, ltb-false}
 use lib.Dec.{ltb}
 use lib.ListN.{length, getD}
 use Rattle.lists.specs.Tests.{true-not-false}
@@ -28,8 +28,10 @@ use Rattle.object.specs.View.{sectionIn, symbolIn, rising}
 use Rattle.record_keys.specs.declared.By.{By}
 use Rattle.record_keys.specs.Keys.{keyOf}
 use Rattle.catalogue_numbers.specs.Numbers.{homeAt, mapsFrom, mapCandidates, mapNumbers}
+use Rattle.records.specs.declared.MapSource.{MapSource}
+use Rattle.records.specs.Maps.{mapNumberOf, mapSourceOf, number-source, of-section}
 use Rattle.records.specs.Readable.{Readable}
-use Rattle.patch_maps.specs.Places.{mapHome}
+use Rattle.patch_maps.specs.Places.{sourceHome, mapHome}
 
 -- ---- a table has no number twice
 
@@ -59,33 +61,38 @@ module _ (key : ℕ → List ℕ) where
 
 -- ---- the numbers of the map table
 
+-- a source that is a map itself
+abbrev pub IsSection : MapSource → Type 0
+IsSection (MapSource.Section i) = Unit {0}
+IsSection (MapSource.Symbol j) = ⊥
+
 module _ (d t : List ℕ) (v : View) where
   -- of some map numbers
   abbrev pub Alone : List ℕ → Type 0
-  Alone ns = (q r : ℕ) → q < length ns → r < length ns → getD ns q 0 < v .sections → mapHome d t v (getD ns r 0) ≡ mapHome d t v (getD ns q 0) → r ≡ q
+  Alone ns =
+      (q r : ℕ) → q < length ns → r < length ns → IsSection (mapSourceOf (v .sections) (getD ns q 0)) → mapHome d t v (getD ns r 0) ≡ mapHome d t v (getD ns q 0)
+      → r ≡ q
 
   abbrev isMaps : ℕ → Bool
   isMaps i = isKind Kind.Maps (kindOf (sectionIn d t v i))
 
   -- only a symbol's map is made from a `maps` section
-  pub record Kinded (n : ℕ) : Type 0 where
-    pub own : n < v .sections → isMaps (mapHome d t v n) ≡ false
-    pub other : v .sections ≤ n → isMaps (mapHome d t v n) ≡ true
+  abbrev KindedSource : MapSource → Type 0
+  KindedSource (MapSource.Section i) = isMaps i ≡ false
+  KindedSource (MapSource.Symbol j) = isMaps (homeAt d t v j) ≡ true
+
+  abbrev Kinded : ℕ → Type 0
+  Kinded n = KindedSource (mapSourceOf (v .sections) n)
 
   all-map : (P : ℕ → Type 0) (f : ℕ → ℕ) (l : List ℕ) → All (λ j. P (f j)) l → All P (map f l)
   all-map P f [] a = tt
   all-map P f (x ∷ l) a = (a .0, all-map P f l (a .1))
 
-  symbol-kinded : (i j : ℕ) → isMaps i ≡ true → homeAt d t v j ≡ i → Kinded (v .sections + j)
-  unfolding mapHome
-  symbol-kinded i j m e =
-      let f : ltb (v .sections + j) (v .sections) ≡ false = le-ltb (v .sections + j) (v .sections) (omega arith) in
-      let g : v .sections + j - v .sections ≡ j = omega arith in
-      record { own = λ l. let no : ⊥ = omega arith in absurd no; other = λ l. rw (f, g, e) m }
+  symbol-kinded : (i j : ℕ) → isMaps i ≡ true → homeAt d t v j ≡ i → Kinded (mapNumberOf (v .sections) (MapSource.Symbol j))
+  symbol-kinded i j m e = rw (number-source (v .sections) (MapSource.Symbol j) tt, e) m
 
-  section-kinded : (i : ℕ) → i < v .sections → isMaps i ≡ false → Kinded i
-  unfolding mapHome
-  section-kinded i l m = let f : ltb i (v .sections) ≡ true = lt-ltb i (v .sections) l in record { own = λ k. rw f m; other = λ k. let no : ⊥ = omega arith in absurd no }
+  section-kinded : (i : ℕ) → i < v .sections → isMaps i ≡ false → Kinded (mapNumberOf (v .sections) (MapSource.Section i))
+  section-kinded i l m = rw (number-source (v .sections) (MapSource.Section i) l) m
 
   abbrev liesAt : ℕ → ℕ → Bool
   liesAt i j = liesIn (sectionIn d t v i .index) (symbolIn d t v j .section)
@@ -94,11 +101,14 @@ module _ (d t : List ℕ) (v : View) where
   unfolding mapsIn members
   kinded-in readable i l = go (isMaps i) (isData (kindOf (sectionIn d t v i))) refl
     where
+      numberOf : ℕ → ℕ
+      numberOf j = mapNumberOf (v .sections) (MapSource.Symbol j)
+
       go : (b c : Bool) → isMaps i ≡ b
-          → All Kinded (cond b (map (λ j. v .sections + j) (keep (liesAt i) (upTo (v .symbols)))) (cond c (i ∷ []) []))
+          → All Kinded (cond b (map numberOf (keep (liesAt i) (upTo (v .symbols)))) (cond c (mapNumberOf (v .sections) (MapSource.Section i) ∷ []) []))
       go true c m =
-          all-map Kinded (λ j. v .sections + j) (keep (liesAt i) (upTo (v .symbols)))
-          (all-keep (λ j. Kinded (v .sections + j)) (liesAt i) (upTo (v .symbols))
+          all-map Kinded numberOf (keep (liesAt i) (upTo (v .symbols)))
+          (all-keep (λ j. Kinded (numberOf j)) (liesAt i) (upTo (v .symbols))
           (λ j q. symbol-kinded i j m (home-is (v .order) (sectionIn d t v) (v .sections) (symbolIn d t v) (v .symbols) (rising d t v (readable .sections-rise)) i j l q)))
       go false true m = (section-kinded i l m, tt)
       go false false m = tt
@@ -113,12 +123,9 @@ module _ (d t : List ℕ) (v : View) where
   unfolding mapNumbers
   sorted-numbers = sorted-table (keyOf By.MapName d t v) (mapCandidates d t v)
 
-  own-home : (n : ℕ) → n < v .sections → mapHome d t v n ≡ n
-  unfolding mapHome
-  own-home n l = rw (lt-ltb n (v .sections) l)
-
   pub numbers-alone : Readable d t v → Alone (mapNumbers d t v)
-  numbers-alone readable q r l k s e = go (ltb y (v .sections)) refl
+  unfolding mapHome
+  numbers-alone readable q r l k s e = go (mapSourceOf (v .sections) x) (mapSourceOf (v .sections) y) refl refl s e (kinded readable q l) (kinded readable r k)
     where
       x : ℕ
       x = getD (mapNumbers d t v) q 0
@@ -126,8 +133,9 @@ module _ (d t : List ℕ) (v : View) where
       y : ℕ
       y = getD (mapNumbers d t v) r 0
 
-      go : (b : Bool) → ltb y (v .sections) ≡ b → r ≡ q
-      go true f =
-          once (keyOf By.MapName d t v) (mapNumbers d t v) sorted-numbers q r l k (sym (own-home y (ltb-true y (v .sections) f)) ∙ e ∙ own-home x s)
-      go false f =
-          true-not-false (sym (kinded readable r k .other (ltb-false y (v .sections) f)) ∙ ap isMaps e ∙ kinded readable q l .own s)
+      go : (a b : MapSource) → mapSourceOf (v .sections) x ≡ a → mapSourceOf (v .sections) y ≡ b → IsSection a → sourceHome d t v b ≡ sourceHome d t v a
+          → KindedSource a → KindedSource b → r ≡ q
+      go (MapSource.Section i) (MapSource.Section j) f g s e m n =
+          once (keyOf By.MapName d t v) (mapNumbers d t v) sorted-numbers q r l k (sym (of-section (v .sections) y j g) ∙ e ∙ of-section (v .sections) x i f)
+      go (MapSource.Section i) (MapSource.Symbol j) f g s e m n = true-not-false (sym n ∙ ap isMaps e ∙ m)
+      go (MapSource.Symbol i) b f g s e m n = absurd s

@@ -4,10 +4,10 @@ use mathlib.Core.Bool.{Bool, true, false, cond}
 use mathlib.Core.List.{List, [], _∷_, _++_, map}
 use mathlib.Core.Option.{Option, none, some}
 use mathlib.Core.Logic.{_⊎_, inl, inr, ⊎-elim}
-use Prim.Native.Nat.{ℕ, zero, suc, _+_, _-_, _<_, _≤_}
+use Prim.Native.Nat.{ℕ, zero, suc, _+_, _<_, _≤_}
 use native.Mathlib.Omega.{arith}
 use borrow.Author.Tests.{eq-eqb, ne-eqb, eqb-true, eqb-false}
-use lib.Dec.{eqb, ltb}
+use lib.Dec.{eqb}
 use lib.ListN.{length, getD, take, length-take}
 use lib.Seq.{take-at, getD-take}
 use Rattle.lists.specs.Tab.{tab, length-tab, getD-tab}
@@ -25,12 +25,14 @@ use Rattle.catalogue_laws.specs.Numbers.{upTo}
 use Rattle.catalogue_laws.specs.FunctionsMaps.{mapOf}
 use Rattle.catalogue_laws.specs.SectionsPrograms.{All, owner, owner-is, find-append}
 use Rattle.object.specs.View.{sectionIn, symbolIn, symbolFrom, rising}
-use Rattle.catalogue_numbers.specs.Numbers.{homeAt, mapAt}
+use Rattle.catalogue_numbers.specs.Numbers.{mapAt}
 use Rattle.catalogue_numbers.specs.Fits.{MapFits}
 use Rattle.symbol_section.specs.declared.Owner.{Owner}
 use Rattle.symbol_section.specs.Owner.{ownerOf, ownerIn}
+use Rattle.records.specs.declared.MapSource.{MapSource}
+use Rattle.records.specs.Maps.{mapSourceOf}
 use Rattle.records.specs.Readable.{Readable}
-use Rattle.patch_maps.specs.Places.{placeFrom, mapHome, home-below, mapPlaces}
+use Rattle.patch_maps.specs.Places.{placeFrom, sourceHome, mapHome, home-below, mapPlaces}
 
 -- ---- the first of a list, by its place
 
@@ -133,12 +135,11 @@ module _ (d t : List ℕ) (v : View) (rise : Readable d t v) where
 
   map-section : (n : ℕ) → mapAt d t v n .section .0 ≡ indexAt (mapHome d t v n)
   unfolding mapHome dataMap legacyMap
-  map-section n = go (ltb n (v .sections))
+  map-section n = go (mapSourceOf (v .sections) n)
     where
-      go : (b : Bool) → mapOf (v .order) (sectionIn d t v) (v .sections) (symbolIn d t v) (v .symbols) b n .section .0
-          ≡ indexAt (cond b n (homeAt d t v (n - v .sections)))
-      go true = refl
-      go false = refl
+      go : (s : MapSource) → mapOf (v .order) (sectionIn d t v) (v .sections) (symbolIn d t v) (v .symbols) s .section .0 ≡ indexAt (sourceHome d t v s)
+      go (MapSource.Section i) = refl
+      go (MapSource.Symbol j) = refl
 
   abbrev mapOr : Option ℕ → Option Map
   mapOr none = none

@@ -2,18 +2,20 @@
 use mathlib.Core.Path.{_≡_, refl, sym, ap, _∙_}
 use mathlib.Core.Bool.{Bool, true, false, cond}
 use mathlib.Core.List.{List, [], _∷_, _++_, map}
-use Prim.Native.Nat.{ℕ, suc, _+_, _-_, _<_, _≤_}
+use Prim.Native.Nat.{ℕ, suc, _+_, _<_, _≤_}
 use native.Mathlib.Omega.{arith}
 use native.Mathlib.Numerals.{add-one}
-use borrow.Author.Tests.{eqb-true, eqb-false, ltb-true, ltb-false}
-use lib.Dec.{eqb, ltb}
+use borrow.Author.Tests.{eqb-true, eqb-false}
+use lib.Dec.{eqb}
 use lib.ListN.{length, getD, take, drop, set, length-set}
 use lib.Seq.{slice, drop-at, set-append-left, getD-set-same, getD-set-other}
 use Rattle.lists.specs.Slice.{slice-next, slice-none}
 use Rattle.lists.specs.Tab.{tab, length-tab, getD-tab, tab-ext, is-tab}
 use Rattle.object_view.specs.declared.View.{View}
+use Rattle.records.specs.declared.MapSource.{MapSource}
+use Rattle.records.specs.Maps.{mapSourceOf}
 use Rattle.catalogue_numbers.specs.Numbers.{homeAt}
-use Rattle.catalogue_numbers.specs.Fits.{MapFits}
+use Rattle.catalogue_numbers.specs.Fits.{SourceFits, MapFits}
 
 -- one more than the place of the first i, counted from k on; 0 where there is none
 unfoldable pub placeFrom : ℕ → ℕ → List ℕ → ℕ
@@ -38,17 +40,21 @@ pub cleared : (n : ℕ) (b₀ b : List ℕ) (s : ℕ) → s ≡ n → b₀ ≡ t
 cleared n b₀ b s e f = rw (f, e) (drop-at (tab (λ i. 0) n) (drop n b) n (length-tab (λ i. 0) n))
 
 module _ (d t : List ℕ) (v : View) where
+  abbrev pub sourceHome : MapSource → ℕ
+  sourceHome (MapSource.Section i) = i
+  sourceHome (MapSource.Symbol j) = homeAt d t v j
+
   -- the section that a map is made from, by number
   unfoldable pub mapHome : ℕ → ℕ
-  mapHome n = cond (ltb n (v .sections)) n (homeAt d t v (n - v .sections))
+  mapHome n = sourceHome (mapSourceOf (v .sections) n)
 
   pub home-below : (n : ℕ) → MapFits d t v n → mapHome n < v .sections
   unfolding mapHome
-  home-below n f = go (ltb n (v .sections)) refl
+  home-below n f = go (mapSourceOf (v .sections) n) f
     where
-      go : (b : Bool) → ltb n (v .sections) ≡ b → cond b n (homeAt d t v (n - v .sections)) < v .sections
-      go true e = ltb-true n (v .sections) e
-      go false e = f .home (ltb-false n (v .sections) e)
+      go : (s : MapSource) → SourceFits d t v s → sourceHome s < v .sections
+      go (MapSource.Section i) g = g
+      go (MapSource.Symbol j) g = g .home
 
   -- for each section one more than the place of its first map, or 0
   unfoldable pub mapPlaces : List ℕ → List ℕ

@@ -11,6 +11,8 @@ ghost use Rattle.patch_maps.specs.Found.{placeOf};
 use model::SymbolRecord;
 use object_view::View;
 use object_view::is_no_section;
+use records::MapSource;
+use records::map_source;
 use records::symbol;
 use stream::size;
 use symbol_section::Owner;
@@ -22,10 +24,9 @@ fn map_home(d: &[u8], t: &[u32], v: View, n: u32) -> u32
     requires { ⌜ Readable (now d) (now t) v ⌝ }
     ensures { λ r. ⌜ r ≡ mapHome (now (d .entry)) (now (t .entry)) v n ⌝ }
 {
-    if n < v.sections {
-        n
-    } else {
-        section_of_symbol(d, t, v, symbol(d, t, v, n - v.sections))
+    match map_source(v, n) {
+        MapSource::Section(i) => i,
+        MapSource::Symbol(j) => section_of_symbol(d, t, v, symbol(d, t, v, j)),
     }
 }
 

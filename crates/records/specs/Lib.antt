@@ -2,4 +2,5 @@
 pub mod Records
 pub mod Fields
 pub mod View
+pub mod Maps
 pub mod Readable

@@ -1,4 +1,4 @@
-// The one door to records: a deposit's or an ELF file's, by number, through a view; and the walk over record numbers.
+// The one door to records: a deposit's or an ELF file's, by number, through a view; what a map's number stands for; and the walk over record numbers.
 ghost use mathlib.Core.Path.{_≡_};
 ghost use Prim.Native.Nat.{_+_, _^_, _<_, _≤_};
 ghost use lib.ListN.{length};
@@ -8,6 +8,7 @@ ghost use Rattle.stream.specs.Stream.{bytesAt};
 ghost use Rattle.records.specs.Records.{headAt, symbolsAt, relocationsAt, namesAt, dataAt, extentAt, depositSection, depositSymbol};
 ghost use Rattle.records.specs.Records.{depositRelocation, cursor, stepOf};
 ghost use Rattle.records.specs.View.{gapOf, depositView, sectionAt, symbolAt, relocationAt};
+ghost use Rattle.records.specs.Maps.{mapSourceOf, mapNumberOf, mapNameAt};
 use model::Endianness;
 use model::Extent;
 use model::Head;
@@ -379,6 +380,47 @@ pub fn data_place(v: View, e: Extent) -> usize
     ensures { λ r. ⌜ (r ≡ v .at .bytes + e .at) × (r < 2 ^ 33) ⌝ }
 {
     size(v.at.bytes) + size(e.at)
+}
+
+// ---- maps
+
+// What a map is made from: a section or a symbol, by record number.
+pub enum MapSource {
+    Section(u32),
+    Symbol(u32),
+}
+
+// The source of the map that has number n.
+pub fn map_source(v: View, n: u32) -> MapSource
+    ensures { λ r. ⌜ r ≡ mapSourceOf (v .sections) n ⌝ }
+{
+    let sections = v.sections;
+    if n < sections {
+        MapSource::Section(n)
+    } else {
+        MapSource::Symbol(n - sections)
+    }
+}
+
+// The number of the map that is made from a source, in an object with so many sections.
+pub fn map_number(sections: u32, source: MapSource) -> u32
+    requires { ⌜ mapNumberOf sections source < 2 ^ 32 ⌝ }
+    ensures { λ r. ⌜ r ≡ mapNumberOf sections source ⌝ }
+{
+    match source {
+        MapSource::Section(i) => i,
+        MapSource::Symbol(j) => sections + j,
+    }
+}
+
+// The range of the name of map number n.
+pub fn map_name(d: &[u8], t: &[u32], v: View, n: u32) -> Extent
+    ensures { λ r. ⌜ r ≡ mapNameAt (now (d .entry)) (now (t .entry)) v n ⌝ }
+{
+    match map_source(v, n) {
+        MapSource::Section(i) => section_name(d, t, v, i),
+        MapSource::Symbol(j) => symbol_name(d, t, v, j),
+    }
 }
 
 // A walk over the record numbers of a table, up to `end`.

@@ -1,8 +1,7 @@
 -- A map's row, by the records that it is read from.
 use mathlib.Core.Path.{_≡_}
 use mathlib.Core.List.{List}
-use Prim.Native.Nat.{ℕ, _+_, _-_, _<_, _≤_}
-use borrow.Author.Tests.{lt-ltb, le-ltb}
+use Prim.Native.Nat.{ℕ, _+_, _≤_}
 use lib.ListN.{length}
 use Rattle.model.specs.declared.BpfMapDef.{BpfMapDef}
 use Rattle.model.specs.declared.EbpfSectionKind.{EbpfSectionKind as Kind}
@@ -14,7 +13,9 @@ use Rattle.model.specs.Contents.{legacyMap, recordOf, wordsOf, dataMap, dataWor
 use Rattle.model.specs.SectionKind.{kindNumber, kindOf}
 use Rattle.stream.specs.Stream.{bytesAt, length-bytes}
 use Rattle.stream.specs.Laws.{part-bytes}
+use Rattle.records.specs.declared.MapSource.{MapSource}
 use Rattle.records.specs.View.{gapOf, sectionAt, symbolAt}
+use Rattle.records.specs.Maps.{mapSourceOf}
 use Rattle.object.specs.View.{sectionFrom, symbolFrom, sectionIn, symbolIn}
 use Rattle.bytes_maps.specs.Own.{ownBytes}
 use Rattle.catalogue_numbers.specs.Numbers.{homeAt, mapAt}
@@ -33,17 +34,11 @@ module _ (d t : List ℕ) (v : View) where
   abbrev pub Within : ℕ → Type 0
   Within j = symbolAt d t v j .address + symbolAt d t v j .size ≤ sectionAt d t v (homeAt d t v j) .bytes .length
 
-  pub map-legacy : (n : ℕ) → v .sections ≤ n → mapAt d t v n ≡ legacyAt (n - v .sections)
-  map-legacy n l = rw (le-ltb n (v .sections) l)
-
-  map-data : (n : ℕ) → n < v .sections → mapAt d t v n ≡ dataMap (kindOf (sectionIn d t v n)) (sectionIn d t v n)
-  map-data n l = rw (lt-ltb n (v .sections) l)
-
-  pub data-is : (n : ℕ) (s : SectionRecord) → n < v .sections → s ≡ sectionAt d t v n
+  pub data-is : (n i : ℕ) (s : SectionRecord) → mapSourceOf (v .sections) n ≡ MapSource.Section i → s ≡ sectionAt d t v i
       → rowBy (s .name .length) (s .index .0) (kindNumber (kindOf (sectionFrom d t v s))) 0 (length (ownBytes d t v n)) (dataWords (kindOf (sectionFrom d t v s)) (s .size))
       ≡ rowOf (mapAt d t v n)
   unfolding rowOf dataMap sectionFrom
-  data-is n s l e = rw (map-data n l, e, length-bytes)
+  data-is n i s m e = rw (m, e, length-bytes)
 
   module _ (j : ℕ) (y : SymbolRecord) (s : SectionRecord) (ey : y ≡ symbolAt d t v j) (es : s ≡ sectionAt d t v (homeAt d t v j)) where
     -- what was read lies in the data too

@@ -6,6 +6,8 @@ ghost use Prim.Native.Nat.{ℕ, _+_, _*_, _^_, _<_, _≤_};
 ghost use lib.ListN.{length, getD, take, drop};
 ghost use lib.Seq.{sets};
 ghost use Rattle.model.specs.SectionKind.{kindNumber};
+ghost use Rattle.records.specs.declared.MapSource.{MapSource};
+ghost use Rattle.records.specs.Maps.{mapSourceOf};
 ghost use Rattle.records.specs.Readable.{Readable};
 ghost use Rattle.catalogue_numbers.specs.Fits.{MapFits};
 ghost use Rattle.catalogue_numbers.specs.Numbers.{mapAt};
@@ -19,8 +21,10 @@ use model::BpfMapDef;
 use model::EbpfSectionKind;
 use object::kind_of;
 use object_view::View;
+use records::MapSource;
 use records::data_place;
 use records::gap;
+use records::map_source;
 use records::section;
 use rows_programs::put7;
 use stream::size;
@@ -56,12 +60,12 @@ fn kind_number(kind: EbpfSectionKind) -> u64
     }
 }
 
-// The row of the map that section n is.
-fn data_row(d: &[u8], t: &[u32], v: View, n: u32) -> Row
-    requires { ⌜ (n < v .sections) × Readable (now d) (now t) v ⌝ }
+// The row of map number n, which section i is.
+fn data_row(d: &[u8], t: &[u32], v: View, n: u32, i: u32) -> Row
+    requires { ⌜ (mapSourceOf (v .sections) n ≡ MapSource.Section i) × Readable (now d) (now t) v ⌝ }
     ensures { λ r. ⌜ Read (mapAt (now (d .entry)) (now (t .entry)) v n) r ⌝ }
 {
-    let s = section(d, t, v, n);
+    let s = section(d, t, v, i);
     let kind = kind_of(d, t, v, s);
     Row {
         length: size(s.name.length),
@@ -96,11 +100,9 @@ fn map_row(d: &[u8], t: &[u32], v: View, n: u32) -> Row
     requires { ⌜ Readable (now d) (now t) v × MapFits (now d) (now t) v n ⌝ }
     ensures { λ r. ⌜ Read (mapAt (now (d .entry)) (now (t .entry)) v n) r ⌝ }
 {
-    let sections = v.sections;
-    if n < sections {
-        data_row(d, t, v, n)
-    } else {
-        legacy_row(d, t, v, n - sections)
+    match map_source(v, n) {
+        MapSource::Section(i) => data_row(d, t, v, n, i),
+        MapSource::Symbol(j) => legacy_row(d, t, v, j),
     }
 }
 

@@ -1,5 +1,4 @@
 -- `bytes_names::extent` meets its contract: each arm is the one that `extentOf` takes.
-use borrow.Author.Tests.{lt-ltb, le-ltb}
 use Rattle.bytes_names.specs.Pieces.{extentOf}
 use borrow.Author.Needs.{needs}
 use Rattle.bytes_names.proofs.extent.Statement.{statement}
@@ -20,11 +19,8 @@ symbol-name-requires c κs = search needs
 enum-told-3 : tie.Need-enum-told-3
 enum-told-3 c = search needs
 
-section-name-requires-2 : tie.Need-section-name-requires-2
-section-name-requires-2 c κs = search needs
-
-symbol-name-requires-2 : tie.Need-symbol-name-requires-2
-symbol-name-requires-2 c κs = search needs
+map-name-requires : tie.Need-map-name-requires
+map-name-requires c κs = search needs
 
 returns : tie.Need-returns
 unfolding extentOf
@@ -36,11 +32,7 @@ returns-2 c = let e = c .before .enum-told2 .given .1 in rw e (c .symbol-name .e
 
 returns-3 : tie.Need-returns-3
 unfolding extentOf
-returns-3 c = let e = c .before .before .enum-told3 .given .1 in rw (e, lt-ltb _ _ (c .before .if1 .taken)) (c .section-name2 .ensures)
-
-returns-4 : tie.Need-returns-4
-unfolding extentOf
-returns-4 c = let e = c .before .before .enum-told3 .given .1 in rw (e, le-ltb _ _ (c .before .if1 .left)) (c .symbol-name2 .ensures)
+returns-3 c = let e = c .before .enum-told3 .given .1 in rw e (c .map-name .ensures)
 
 pub extent-spec : {M : Type 1} → statement M
 extent-spec =
@@ -51,9 +43,7 @@ extent-spec =
     enum-told-2
     symbol-name-requires
     enum-told-3
-    section-name-requires-2
-    symbol-name-requires-2
+    map-name-requires
     returns
     returns-2
-    returns-3
-    returns-4)
+    returns-3)

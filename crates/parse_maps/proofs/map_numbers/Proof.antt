@@ -5,6 +5,8 @@ use denote.Ref.{now}
 use native.Mathlib.Omega.{arith}
 use lib.ListN.{length, getD, length-set}
 use lib.Seq.{slice}
+use Rattle.records.specs.declared.MapSource.{MapSource}
+use Rattle.records.specs.Maps.{mapNumberOf}
 use Rattle.catalogue_laws.specs.Groups.{map-start, map-in, Laid, laid-none, laid-next}
 use Rattle.parse_maps.specs.Fault.{mapNumbers}
 use borrow.Author.Needs.{needs}
@@ -20,22 +22,22 @@ abbrev μ-loop : tie.MeasureT-loop
 
 loop-holds : tie.Need-loop-holds Inv-loop μ-loop
 loop-holds c =
-    let a = c .args in
+    let a = c .before .before .args in
     (omega arith, omega arith, omega arith, refl, laid-none (a .w) _ (now (a .out)) (map-start _ (a .lo) (now (a .order))))
+
+mul-j : tie.Need-mul-j Inv-loop μ-loop
+mul-j c = search needs
+
+shared-slice-read-j : tie.Need-shared-slice-read-j Inv-loop μ-loop
+shared-slice-read-j c = search needs
+
+map-number-requires : tie.Need-map-number-requires Inv-loop μ-loop
+map-number-requires c κs =
+    let l = c .before .before in
+    l .before .before .before .pre .3 (l .loop .i) (l .loop .inv .0) (c .before .loop-test .taken)
 
 mul-out : tie.Need-mul-out Inv-loop μ-loop
 mul-out c = search needs
-
-shared-slice-read-out : tie.Need-shared-slice-read-out Inv-loop μ-loop
-shared-slice-read-out c = search needs
-
-add-out : tie.Need-add-out Inv-loop μ-loop
-add-out c =
-    let l = c .before .before in
-    omega (arith, l .before .pre .3 (l .loop .i) (l .loop .inv .0) (c .before .loop-test .taken))
-
-mul-out-2 : tie.Need-mul-out-2 Inv-loop μ-loop
-mul-out-2 c = search needs
 
 slice-write-out : tie.Need-slice-write-out Inv-loop μ-loop
 slice-write-out c = search needs
@@ -51,8 +53,8 @@ loop-less c = search needs
 
 loop-again : tie.Need-loop-again Inv-loop μ-loop
 loop-again c =
-    let l = c .before .before in
-    let a = l .before .args in
+    let l = c .before .before .before in
+    let a = l .before .before .before .args in
     let js = now (a .order) in
     let v = l .loop .inv in
     let i = l .loop .i in
@@ -63,7 +65,7 @@ loop-again c =
       omega arith,
       omega arith,
       rw length-set (v .3),
-      laid-next (v .4) (a .sections + getD js i 0) _ room (map-in (a .lo) i js from inside (λ j. a .sections + j)),
+      rw (c .map-number .ensures) (laid-next (v .4) (mapNumberOf (a .sections) (MapSource.Symbol (getD js i 0))) _ room (map-in (a .lo) i js from inside (λ j. mapNumberOf (a .sections) (MapSource.Symbol j)))),
     )
 
 same-length : tie.Need-same-length Inv-loop μ-loop
@@ -72,7 +74,7 @@ same-length c = search needs
 returns : tie.Need-returns Inv-loop μ-loop
 returns c =
     let l = c .before in
-    let a = l .before .args in
+    let a = l .before .before .before .args in
     let e : l .loop .i ≡ a .hi = omega arith in
     let z : Laid (a .w) (l .loop .n) (mapNumbers (a .sections) (slice (a .lo) (a .hi) (now (a .order)))) (now (a .out)) (l .loop .out) = rw (← e) (l .loop .inv .4) in
     (z .count, z .held)
@@ -84,10 +86,10 @@ map-numbers-spec =
     Inv-loop
     μ-loop
     loop-holds
+    mul-j
+    shared-slice-read-j
+    map-number-requires
     mul-out
-    shared-slice-read-out
-    add-out
-    mul-out-2
     slice-write-out
     add-n
     add-i

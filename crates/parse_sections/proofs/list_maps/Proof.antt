@@ -21,6 +21,9 @@ enum-told c = search needs
 map-numbers-requires : tie.Need-map-numbers-requires
 map-numbers-requires c κs = search needs
 
+map-number-requires : tie.Need-map-number-requires
+map-number-requires c κs = search needs
+
 mul-out : tie.Need-mul-out
 mul-out c = search needs
 
@@ -45,11 +48,11 @@ same-length-2 c = search needs
 returns-2 : tie.Need-returns-2
 unfolding mapsOf
 returns-2 c =
-    let st = c .before .before .before in
+    let st = c .before .before .before .before in
     let a = st .args in
-    let k = c .match .keys2 in
+    let k = c .before .match .keys2 in
     let room : a .w < length (now (a .out)) = omega (arith, st .pre .2) in
-    rw (other-kind (6 ∷ 4 ∷ 5 ∷ []) Kind.Maps (a .kind) tt k, data-kind (a .kind) k)
+    rw (other-kind (6 ∷ 4 ∷ 5 ∷ []) Kind.Maps (a .kind) tt k, data-kind (a .kind) k, c .map-number .ensures)
     (laid-next (laid-none (a .w) [] (now (a .out)) refl) (a .i) (a .i ∷ []) room refl)
 
 -- the tags of the kinds without maps
@@ -70,6 +73,7 @@ list-maps-spec =
     (tie.spec
     enum-told
     map-numbers-requires
+    map-number-requires
     mul-out
     slice-write-out
     add-result

@@ -1,5 +1,6 @@
 -- `rows_maps::data_row` meets its contract: the record read and the numbers of the section's kind are those of the map.
 use denote.Ref.{now}
+use Rattle.records.specs.Maps.{section-below}
 use Rattle.rows_maps.specs.Maps.{data-is}
 use borrow.Author.Needs.{needs}
 use Rattle.rows_maps.proofs.data_row.Statement.{statement}
@@ -27,7 +28,7 @@ parse-data-map-section-requires : tie.Need-parse-data-map-section-requires
 parse-data-map-section-requires c κs =
     let b = c .before .before .before .before .before .before .before .before in
     let s = c .before .before .before .before .before .section in
-    rw (s .ensures) (b .pre .1 .section-size (b .args .n) (b .pre .0))
+    rw (s .ensures) (b .pre .1 .section-size (b .args .i) (section-below (b .args .v .sections) (b .args .n) (b .args .i) (b .pre .0)))
 
 returns : tie.Need-returns
 returns c =
@@ -40,7 +41,7 @@ returns c =
     record {
       row =
           rw (c .parse-data-map-section .ensures, own .ensures .0, c .before .before .kind-number .ensures, c .before .before .before .wide64 .ensures .0, len .ensures .0, k .ensures)
-          (data-is (now (a .d)) (now (a .t)) (a .v) (a .n) (s .result) (b .pre .0) (s .ensures));
+          (data-is (now (a .d)) (now (a .t)) (a .v) (a .n) (a .i) (s .result) (b .pre .0) (s .ensures));
       name-short = len .ensures .1;
       own-short = own .ensures .1 (b .pre .1);
     }
