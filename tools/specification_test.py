@@ -2,7 +2,7 @@
 """Holds docs/SPECIFICATION.md and the definitions to each other. Run:  python3 tools/specification_test.py
 
 Statements are numbered S1, S2, .. without a gap; each definition that one cites exists, each public definition of the model is cited, and each
-statement that a comment of a definition cites exists."""
+statement that a comment of a definition cites exists. The contracts of the public calls cite no definition outside the model."""
 import glob
 import os
 import re
@@ -14,6 +14,12 @@ DECLARED = re.compile(r"^\s*(?:(?:abbrev|unfoldable) )?pub (?:record |data )?([^
 # What the statements are written with, and the examples.
 PLAIN = """Bytes.ascii Bytes.push Bytes.keep Bytes.orElse Bytes._∈_ Bytes.each Bytes.firstIn Bytes.maybe Bytes.find Bytes.isSome Bytes.littleBytes
 Bytes.AllBytes""".split()
+
+
+# The public calls. Of the kit's crates a contract may cite io, which says how many bytes are written.
+CALLS = [("load", "lib", "load"), ("rows_functions", "lib", "find"), ("buncoyew", "lib", "buncoyew_load"), ("buncoyew", "lib", "buncoyew_find"),
+         ("load_numbers", "lib", "load_flat"), ("listing", "main", "list")]
+BELIEVED = ("model", "io")
 
 
 def read(path):
@@ -65,6 +71,16 @@ class Specification(unittest.TestCase):
         for path in glob.glob(os.path.join(TOP, "crates", "*", "specs", "*.antt")):
             cited = {n for line in read(path).split("\n") if line.strip().startswith("-- S") for n in re.findall(r"\bS\d+\b", line)}
             self.assertEqual(sorted(cited - stated), [], path)
+
+    def test_contracts_of_calls_cite_the_model_alone(self):
+        for crate, file, call in CALLS:
+            text = read(os.path.join(TOP, "crates", crate, "src", f"{file}.rt"))
+            contract = re.search(rf"^(?:pub )?(?:extern \"C\" )?fn {call}\(.*?^\{{$", text, re.M | re.S).group(0)
+            words = set(re.split(r"[\s().,⌜⌝]+", contract))
+            cited = {name: owner for owner, names in re.findall(r"^ghost use Rattle·([^.·]+)\S*\.\{(.*)\};$", text, re.M)
+                     for name in re.split(r",\s*", names) if name.split(" as ")[-1] in words}
+            self.assertIn("model", cited.values(), call)
+            self.assertEqual({name: owner for name, owner in cited.items() if owner not in BELIEVED}, {}, call)
 
 
 if __name__ == "__main__":

@@ -49,13 +49,13 @@ use denote.Exit.{yes}
 use Rattle.model.specs.declared.Answer.{Answer}
 use Rattle.model.specs.declared.Function.{Function}
 use Rattle.model.specs.declared.Room.{Room as LentRoom}
-use Rattle.model.specs.Lent.{lent, Outcome, outcome, outcomeIn, loadOf}
+use Rattle.model.specs.Lent.{lent, lentRoom, Outcome, outcome, outcomeIn, loadOf}
 use Rattle.object_view.specs.declared.Opened.{Opened}
 use Rattle.deposit.specs.Open.{openedOf}
 use Rattle.rows_functions.specs.declared.Rows.{Rows}
 use Rattle.rows_functions.specs.Rows.{ReadableRows, rowsMade}
 use Rattle.load_object.specs.declared.Loaded.{Loaded}
-use Rattle.load_object.specs.Done.{lentRoom, Open, symbolsOf, verdictIn, CoreDone}
+use Rattle.load_object.specs.Done.{Open, symbolsOf, verdictIn, CoreDone}
 use Rattle.load_core.specs.Core.{open-deposit, deposit-outcome}
 use @SPECS.Loads.{Loads}
 use Rattle·@CRATE·proofs.proofs.Again.{LentAgain, lends-again, comes-back}

@@ -2,40 +2,20 @@
 ghost use mathlib.Core.Path.{_≡_};
 ghost use mathlib.Core.List.{[], _∷_};
 ghost use Rattle.model.specs.Lent.{lent, roomIn, loadOf};
-ghost use Rattle.rows_functions.specs.Search.{foundIn};
-ghost use Rattle.buncoyew.specs.Called.{orderNumber, statedBit, statedVersion, acceptedAnswer, refusedAnswer, answerOf, rowNumber, call, callOf};
+ghost use Rattle.model.specs.LookUp.{foundIn, rowNumber};
+ghost use Rattle.model.specs.AnswerNumbers.{orderNumber, statedBit, statedVersion, acceptedAnswer, refusedAnswer, answerOf, call, callOf};
 use load::load;
 use model::Answer;
 use model::Endianness;
+use model::Found;
 use model::Function;
 use model::KernelVersion;
+use model::LoadAnswer;
 use model::Refusal;
 use model::SectionIndex;
 use model::Summary;
 use model::SymbolIndex;
-use rows_functions::Found;
 use rows_functions::find;
-
-// An answer as numbers: `number` is 0 where the deposit is accepted, and then the places are 0; else it is the refusal's, and what follows `entry` is 0.
-#[repr(C)]
-pub struct LoadAnswer {
-    pub number: u32,
-    pub section: SectionIndex,
-    pub symbol: SymbolIndex,
-    // 0 little, 1 big.
-    pub order: u32,
-    pub entry: u64,
-    // 1 where a kernel version is stated, 0 where any will do.
-    pub versioned: u32,
-    pub version: u32,
-    pub license: u64,
-    pub sections: u64,
-    pub programs: u64,
-    pub functions: u64,
-    pub maps: u64,
-    pub relocations: u64,
-    pub bytes: u64,
-}
 
 fn order_number(o: Endianness) -> u32
     ensures { λ r. ⌜ r ≡ orderNumber o ⌝ }
@@ -172,10 +152,10 @@ fn row_number(f: Found) -> u64
 pub extern "C" fn buncoyew_find(
     functions: &[Function],
     count: usize,
-    section: u32,
+    section: SectionIndex,
     address: u64,
 ) -> u64
-    ensures { λ r. ⌜ r ≡ rowNumber (foundIn (now (functions .entry)) count (section ∷ address ∷ [])) ⌝ }
+    ensures { λ r. ⌜ r ≡ rowNumber (foundIn (now (functions .entry)) count (section .0 ∷ address ∷ [])) ⌝ }
 {
-    row_number(find(functions, count, SectionIndex(section), address))
+    row_number(find(functions, count, section, address))
 }

@@ -8,6 +8,7 @@ use native.Mathlib.Omega.{arith}
 use lib.ListN.{length, getD, take, replicate, length-append, List·getD-append}
 use lib.Seq.{take-at}
 use Rattle.model.specs.declared.Answer.{Answer}
+use Rattle.model.specs.declared.Found.{Found}
 use Rattle.model.specs.declared.Function.{Function as Row}
 use Rattle.model.specs.declared.Refusal.{Refusal}
 use Rattle.model.specs.declared.Summary.{Summary}
@@ -20,15 +21,14 @@ use Rattle.model.specs.Patching.{accepted, finish, verdict, load}
 use Rattle.model.specs.Deposit.{objectOf}
 use Rattle.model.specs.PatchList.{patchesOf}
 use Rattle.model.specs.Lent.{functionsAt, codeStart, summaryOf, imageOf, filled, filledTo, zeroRow, loadOf}
+use Rattle.model.specs.LookUp.{rowKey, foundIn}
 use Rattle.model.specs.declared.Room.{Room}
 use Rattle.guarantees.specs.TableLaws.{Sorted, sorted-table}
 use Rattle.guarantees.specs.AcceptedDeposits.{deposit-accepted}
 use Rattle.guarantees.specs.SecondHalf.{accepted-is}
 use Rattle.guarantees.specs.LentBack.{Given, given-is}
 use Rattle.finish_laws.specs.Alike.{Alike, alike-finish}
-use Rattle.rows_functions.specs.declared.Found.{Found}
-use Rattle.rows_functions.specs.Search.{rowKey, foundIn}
-use Rattle.rows_functions.specs.Lookup.{placeFrom, RowsRise, found-is}
+use Rattle.find_laws.specs.SearchLaws.{placeFrom, RowsRise, found-is}
 use Rattle.find_laws.specs.Rising.{rowsOf, length-rows, front-rises, functionPlace, place-is, place-none, place-some}
 
 load-is : (o : Object) (ps : List Patch) (on : Bool) (c : Catalogue) → load o ps on ≡ accepted c → c ≡ finish o ps on (catalogueOf o)

@@ -7,16 +7,16 @@ use Prim.Native.Nat.{ℕ, zero, suc, _+_, _<_}
 use native.Mathlib.Nat.{add-zero, suc-add, add-suc, not-suc-le-zero, le-of-suc-le-suc}
 use native.Mathlib.Omega.{arith}
 use lib.ListN.{length, getD, List·getD-append}
+use Rattle.model.specs.declared.Found.{Found}
 use Rattle.model.specs.declared.Function.{Function as Row}
 use Rattle.model.specs.Bytes.{same, before, _∈_}
 use Rattle.model.specs.Catalogue.{Function, functionKey}
 use Rattle.model.specs.Lent.{placed, functionName, functionCode, functionRow, zeroRow}
+use Rattle.model.specs.LookUp.{rowKey}
 use Rattle.lists.specs.Tests.{true-not-false}
 use Rattle.orders.specs.Keys.{same-is, same-refl}
 use Rattle.guarantees.specs.TableLaws.{First, Sorted}
-use Rattle.rows_functions.specs.declared.Found.{Found}
-use Rattle.rows_functions.specs.Search.{rowKey}
-use Rattle.rows_functions.specs.Lookup.{placeFrom, RowsRise}
+use Rattle.find_laws.specs.SearchLaws.{placeFrom, RowsRise}
 
 -- the rows of functions whose first name and first code lie there
 abbrev pub rowsOf : ℕ → ℕ → List Function → List Row

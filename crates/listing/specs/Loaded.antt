@@ -13,6 +13,7 @@ use Rattle.model.specs.declared.Summary.{Summary}
 use Rattle.model.specs.declared.Answer.{Answer}
 use Rattle.model.specs.Bytes.{each, records}
 use Rattle.model.specs.Catalogue.{Program, Function, Map}
+use Rattle.model.specs.FunctionNumbers.{flatRows}
 use Rattle.model.specs.Lent.{loadOf, fitsIn, imageOf, summaryOf, placed, programName, functionName, functionCode, mapName, mapOwn, nothing, programRow, functionRow, mapRow, programsAt, functionsAt, codeStart, mapsAt, ownStart}
 use Rattle.model.specs.declared.Room.{Room}
 use Rattle.model.specs.Listing.{catalogueText}
@@ -20,7 +21,7 @@ use Rattle.model.specs.ReadBack.{functionRead, readBack}
 use Rattle.lists.specs.Tests.{both-true}
 use Rattle.catalogue_laws.specs.Placed.{length-joined}
 use Rattle.guarantees.specs.LentBack.{Given, given-is, lent-lengths}
-use Rattle.rows_numbers.specs.Flat.{flatRows, length-flat}
+use Rattle.rows_numbers.specs.Flat.{length-flat}
 use Rattle.listing.specs.Numbers.{Flat}
 use Rattle.listing_text.specs.Flat.{rowFrom, functionFrom, topText, flatText, RowsFit}
 

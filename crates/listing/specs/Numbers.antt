@@ -4,9 +4,8 @@ use mathlib.Core.List.{List, _++_}
 use Prim.Native.Nat.{ℕ, _-_}
 use lib.ListN.{length, replicate}
 use Rattle.model.specs.declared.Answer.{Answer}
+use Rattle.model.specs.FunctionNumbers.{flatRows, flat, flatOf}
 use Rattle.model.specs.Lent.{Lent, Outcome}
-use Rattle.load_numbers.specs.Loads.{flat, flatOf}
-use Rattle.rows_numbers.specs.Flat.{flatRows}
 
 -- what is lent, its function table as numbers with anything behind them
 pub record Flat (i : Lent) (programs functions maps bytes : List ℕ) : Type 0 where

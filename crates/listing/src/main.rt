@@ -5,9 +5,8 @@ ghost use mathlib.Core.Path.{_≡_};
 ghost use Prim.Native.Nat.{_+_, _*_, _≤_};
 ghost use lib.ListN.{length, take};
 ghost use Rattle.io.specs.Counts.{Counts};
+ghost use Rattle.model.specs.FunctionNumbers.{flatRoom};
 ghost use Rattle.model.specs.Listing.{tooLong, listingOf};
-ghost use Rattle.load_numbers.specs.Loads.{flatRoom};
-ghost use Rattle.listing_text.specs.Laid.{Laid};
 use libc::STDIN_FILENO;
 use libc::STDOUT_FILENO;
 use listing_text::put_answer;
@@ -43,12 +42,6 @@ fn list(
     ensures { λ r.
         ⌜
         Counts r (now (out .exit))
-        × Laid 0
-        (listingOf
-        (flatRoom (now (sections .entry)) (now (programs .entry)) (now (functions .entry))
-        (now (maps .entry)) (now (relocations .entry)) (now (bytes .entry)))
-        (now (d .entry)))
-        (now (out .entry)) r (now (out .exit))
         × (take r (now (out .exit))
         ≡ listingOf
         (flatRoom (now (sections .entry)) (now (programs .entry)) (now (functions .entry))

@@ -28,9 +28,9 @@ use denote.Triple.Walked.{says, needs, Stays, gave-slice, stay-dropped, walkOf, 
 use denote.Exit.{yes}
 use Rattle.model.specs.declared.Answer.{Answer}
 use Rattle.model.specs.declared.Function.{Function}
-use Rattle.model.specs.Lent.{outcomeIn}
+use Rattle.model.specs.Lent.{lentRoom, outcomeIn}
 use Rattle.object_view.specs.declared.Opened.{Opened}
-use Rattle.load_object.specs.Done.{lentRoom, Open, symbolsOf, verdictIn}
+use Rattle.load_object.specs.Done.{Open, symbolsOf, verdictIn}
 use Rattle.load_functions.specs.Loads.{Loads}
 use Rattle.model.proofs.Function as T
 use Rattle.model.proofs.Answer as F

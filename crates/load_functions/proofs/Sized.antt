@@ -39,12 +39,12 @@ use denote.Triple.Spec.{Meets, tripleOf}
 use denote.Triple.Walked.{says}
 use Rattle.model.specs.declared.Answer.{Answer}
 use Rattle.model.specs.declared.Function.{Function}
-use Rattle.model.specs.Lent.{lent, Outcome, outcome, outcomeIn}
+use Rattle.model.specs.Lent.{lentRoom, lent, Outcome, outcome, outcomeIn}
 use Rattle.object_view.specs.declared.Opened.{Opened}
 use Rattle.rows_functions.specs.declared.Rows.{Rows}
 use Rattle.rows_functions.specs.Rows.{ReadableRows, rowsMade}
 use Rattle.load_object.specs.declared.Loaded.{Loaded}
-use Rattle.load_object.specs.Done.{lentRoom, Open, symbolsOf, verdictIn, CoreDone}
+use Rattle.load_object.specs.Done.{Open, symbolsOf, verdictIn, CoreDone}
 use Rattle.load_functions.specs.Loads.{Loads}
 use Rattle.load_functions.proofs.Again.{LentAgain, lends-again, comes-back}
 use Rattle.load_functions.specs.Shared.{shares-all}

@@ -1,8 +1,8 @@
 // The load call with the function table as numbers, seven a row: section, address, offset, name at, name length, code at, code length.
 ghost use mathlib.Core.Path.{_≡_};
 ghost use lib.ListN.{length};
+ghost use Rattle.model.specs.FunctionNumbers.{flat, flatOf, flatRoom};
 ghost use Rattle.model.specs.Lent.{loadOf};
-ghost use Rattle.load_numbers.specs.Loads.{flat, flatOf, flatRoom};
 use deposit::open;
 use load_core::load_core;
 use model::Answer;

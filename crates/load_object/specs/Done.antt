@@ -5,7 +5,6 @@ use mathlib.Core.List.{List, _++_}
 use Prim.Native.Nat.{ℕ, _≤_}
 use native.Mathlib.Omega.{arith}
 use Rattle.model.specs.Lent.{lent, Outcome, outcome}
-use Rattle.model.specs.declared.Room.{Room}
 use Rattle.model.specs.PatchList.{patchesOf}
 use Rattle.model.specs.Patching.{Verdict, refused, load}
 use Rattle.object_view.specs.declared.Opened.{Opened}
@@ -13,10 +12,6 @@ use Rattle.records.specs.Readable.{Readable}
 use Rattle.object.specs.View.{objectIn}
 use Rattle.rows_functions.specs.Rows.{ReadableRows, rowsMade}
 use Rattle.load_object.specs.declared.Loaded.{Loaded}
-
--- the lent lengths, in the order of the tables
-abbrev pub lentRoom : ℕ → ℕ → ℕ → ℕ → ℕ → ℕ → Room
-lentRoom s p f m r b = record { sections = s; programs = p; functions = f; maps = m; relocations = r; bytes = b }
 
 -- what was opened can be read
 abbrev pub Open : List ℕ → List ℕ → Opened → Type 0

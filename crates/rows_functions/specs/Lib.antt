@@ -3,4 +3,3 @@ pub mod Rows
 pub mod Stored
 pub mod Search
 pub mod Placed
-pub mod Lookup

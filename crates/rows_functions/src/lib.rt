@@ -4,11 +4,13 @@ ghost use mathlib.Core.List.{[], _∷_};
 ghost use Prim.Native.Nat.{_+_, _<_, min};
 ghost use lib.ListN.{length};
 ghost use Rattle.model.specs.Lent.{zeroRow};
+ghost use Rattle.model.specs.LookUp.{rowKey, foundIn};
 ghost use Rattle.model.specs.Symbols.{top};
 ghost use Rattle.records.specs.Readable.{Readable};
 ghost use Rattle.rows_functions.specs.Rows.{ReadableRows, rowMade, madeOf, rowsMade};
 ghost use Rattle.orders.specs.Compare.{ordering};
-ghost use Rattle.rows_functions.specs.Search.{rowKey, middleOf, begun, narrowed, foundIn};
+ghost use Rattle.rows_functions.specs.Search.{middleOf, begun, narrowed};
+use model::Found;
 use model::Function;
 use model::Range;
 use model::SectionIndex;
@@ -117,11 +119,6 @@ pub fn fill(functions: &mut [Function], d: &[u8], t: &[u32], order: &[u32], rows
         at = m.rest;
         i += 1;
     }
-}
-
-pub enum Found {
-    At(usize),
-    Nothing,
 }
 
 // What a search has left: the rows from `low` up to `high`; or none, and the row that it found.

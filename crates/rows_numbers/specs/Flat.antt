@@ -1,7 +1,7 @@
 -- The rows of the function table as numbers, one row after the other.
 use mathlib.Core.Path.{_≡_, refl, sym, ap, _∙_}
 use mathlib.Core.List.{List, [], _∷_, _++_}
-use Prim.Native.Nat.{ℕ, zero, suc, _+_, _-_, _*_, _/_, _≤_}
+use Prim.Native.Nat.{ℕ, zero, suc, _+_, _-_, _*_, _≤_}
 use native.Mathlib.Nat.{suc-mul}
 use native.Mathlib.Numerals.{add-one}
 use native.Mathlib.Omega.{arith}
@@ -10,30 +10,13 @@ use lib.Seq.{sets}
 use Rattle.lists.specs.Tab.{rows, rows-none, rows-suc, length-rows, rows-sets, tail-fill}
 use Rattle.model.specs.declared.Function.{Function}
 use Rattle.model.specs.Bytes.{each}
+use Rattle.model.specs.FunctionNumbers.{rowNumbers, flatRows}
 use Rattle.model.specs.Lent.{filled}
 use Rattle.catalogue_laws.specs.Numbers.{each-append}
 use Rattle.rows_functions.specs.declared.Made.{Made}
 use Rattle.rows_functions.specs.declared.Rows.{Rows}
 use Rattle.rows_functions.specs.Rows.{rowsMade}
 use Rattle.rows_functions.specs.Stored.{madeAt, rows-next}
-
-abbrev pub rowNumbers : Function → List ℕ
-rowNumbers f =
-    f .section .0
-    ∷ f .address
-    ∷ f .offset
-    ∷ f .name .at
-    ∷ f .name .length
-    ∷ f .code .at
-    ∷ f .code .length
-    ∷ []
-
-unfoldable pub flatRows : List Function → List ℕ
-flatRows fs = each rowNumbers fs
-
--- how many rows so many numbers have room for
-abbrev pub rowsIn : ℕ → ℕ
-rowsIn n = n / 7
 
 pub length-flat : (fs : List Function) → length (flatRows fs) ≡ length fs * 7
 unfolding flatRows each

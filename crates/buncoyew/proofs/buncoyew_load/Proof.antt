@@ -42,15 +42,15 @@ use denote.Triple.Walked.{says, Stays, gave-slice, stay-ref, stay-dropped, walkO
 use denote.Exit.{yes}
 use Rattle.model.specs.declared.Answer.{Answer}
 use Rattle.model.specs.declared.Function.{Function}
+use Rattle.model.specs.declared.LoadAnswer.{LoadAnswer}
+use Rattle.model.specs.AnswerNumbers.{answerOf, call, callOf}
 use Rattle.model.specs.Lent.{lent, roomIn, Outcome, loadOf}
 use Rattle.load_opened.specs.Loads.{Loads}
-use Rattle.buncoyew.specs.declared.LoadAnswer.{LoadAnswer}
-use Rattle.buncoyew.specs.Called.{answerOf, call, callOf}
 use Rattle.model.proofs.Function as T
 use Rattle.model.proofs.Answer as F
 use Rattle.model.proofs.Answer.Laws as F′
-use Rattle.buncoyew.proofs.LoadAnswer as R
-use Rattle.buncoyew.proofs.LoadAnswer.Laws as R′
+use Rattle.model.proofs.LoadAnswer as R
+use Rattle.model.proofs.LoadAnswer.Laws as R′
 use Rattle.load.proofs.load as load′
 use Rattle.load.proofs.load.Symbol as load-def
 use Rattle.load.proofs.load.Symbol.{name as #load}

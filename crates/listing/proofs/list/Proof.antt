@@ -8,11 +8,11 @@ use denote.Ref.{now}
 use lib.ListN.{length}
 use Rattle.model.specs.declared.Answer.{Answer}
 use Rattle.model.specs.Bytes.{AllBytes}
+use Rattle.model.specs.FunctionNumbers.{flatRoom}
 use Rattle.model.specs.Lent.{Outcome, loadOf}
 use Rattle.model.specs.declared.Room.{Room}
 use Rattle.model.specs.Listing.{refusalText, listingOf}
 use Rattle.encoding.specs.Code.{all-bytes}
-use Rattle.load_numbers.specs.Loads.{flatRoom}
 use Rattle.listing.specs.Numbers.{flat-answer, flat-tables}
 use Rattle.listing_text.specs.Laid.{same-text, whole-text}
 use Rattle.listing.specs.Bound.{refusal-most}
@@ -39,7 +39,7 @@ returns c =
     let e : refusalText (t .too-long .result) ≡ listingOf _ (now (s .args .d)) = ap refusalText (t .too-long .ensures) ∙ sym (long-text _ (now (s .args .d)) (t .before .before .if1 .taken)) in
     let l = same-text e (p .put-refusal .ensures) in
     let h = rw e at (refusal-most (t .too-long .result)) in
-    (counted (p .put-refusal .result) (p .put-refusal .last .0) (l .within), l, whole-text (omega (arith, s .pre)) l)
+    (counted (p .put-refusal .result) (p .put-refusal .last .0) (l .within), whole-text (omega (arith, s .pre)) l)
 
 slice-aggregate-load-flat : tie.Need-slice-aggregate-load-flat
 slice-aggregate-load-flat c = search needs
@@ -105,7 +105,7 @@ returns-2 c =
     let small : AllBytes d = all-bytes d (λ k. i .before .before .before .before .before .before .before .before .shared-slice-known .given k .fits) in
     let m : length (listingOf room d) ≤ room .bytes + 10 * room .programs + 73 * room .functions + 3 * room .maps + 71 = rw (short-text room d (i .if1 .left)) (text-most d [] [] false room small r e) in
     let l = same-text t (p .put-answer .ensures) in
-    (counted (p .put-answer .result) (p .put-answer .last .0) (l .within), l, whole-text (omega (arith, s .pre)) l)
+    (counted (p .put-answer .result) (p .put-answer .last .0) (l .within), whole-text (omega (arith, s .pre)) l)
 
 pub list-spec : {M : Type 1} → statement M
 list-spec =

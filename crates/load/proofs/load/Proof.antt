@@ -43,10 +43,10 @@ use denote.Exit.{yes}
 use Rattle.model.specs.declared.Answer.{Answer}
 use Rattle.model.specs.declared.Function.{Function}
 use Rattle.model.specs.declared.Room.{Room as LentRoom}
-use Rattle.model.specs.Lent.{Outcome, outcomeIn, loadOf}
+use Rattle.model.specs.Lent.{lentRoom, Outcome, outcomeIn, loadOf}
 use Rattle.object_view.specs.declared.Opened.{Opened}
 use Rattle.deposit.specs.Open.{openedOf}
-use Rattle.load_object.specs.Done.{lentRoom, Open, verdictIn}
+use Rattle.load_object.specs.Done.{Open, verdictIn}
 use Rattle.load_core.specs.Core.{open-deposit, deposit-outcome}
 use Rattle.load_opened.specs.Loads.{Loads}
 use Rattle.load_opened.specs.Shared.{shares-all}

@@ -4,10 +4,10 @@ use mathlib.Core.List.{[]}
 use native.Mathlib.Omega.{arith}
 use denote.Ref.{now}
 use lib.ListN.{length}
-use Rattle.model.specs.Lent.{outcomeIn}
+use Rattle.model.specs.Lent.{lentRoom, outcomeIn}
 use Rattle.parse_tables.specs.Parsed.{lent-length}
 use Rattle.load_object.specs.Core.{refused-loads}
-use Rattle.load_object.specs.Done.{lentRoom, verdictIn}
+use Rattle.load_object.specs.Done.{verdictIn}
 use Rattle.load_core.specs.Core.{open-view, opened-loads}
 use borrow.Author.Needs.{needs}
 use Rattle.load_core.proofs.load_core.Statement.{statement}

@@ -3,9 +3,9 @@ use mathlib.Core.List.{[]}
 use Prim.Native.Nat.{ℕ}
 use denote.Ref.{now}
 use lib.ListN.{length, replicate, length-replicate}
+use Rattle.model.specs.FunctionNumbers.{rowsIn, flatRoom}
 use Rattle.rows_functions.specs.Rows.{rowsMade}
-use Rattle.rows_numbers.specs.Flat.{rowsIn}
-use Rattle.load_numbers.specs.Loads.{flatRoom, opens-few, flat-loads}
+use Rattle.load_numbers.specs.Loads.{opens-few, flat-loads}
 use borrow.Author.Needs.{needs}
 use Rattle.load_numbers.proofs.load_flat.Statement.{statement}
 use Rattle.load_numbers.proofs.load_flat.Tie as tie

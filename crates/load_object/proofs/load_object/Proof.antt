@@ -3,11 +3,11 @@ use mathlib.Core.Path.{_∙_}
 use native.Mathlib.Omega.{arith}
 use denote.Ref.{now}
 use lib.ListN.{length}
+use Rattle.model.specs.Lent.{lentRoom}
 use Rattle.model.specs.PatchList.{patchesOf}
 use Rattle.object.specs.View.{objectIn}
 use Rattle.load_decision.specs.Outcomes.{back-object}
 use Rattle.load_object.specs.Core.{refused-loads, numbers-refused, numbers-held}
-use Rattle.load_object.specs.Done.{lentRoom}
 use borrow.Author.Needs.{needs}
 use Rattle.load_object.proofs.load_object.Statement.{statement}
 use Rattle.load_object.proofs.load_object.Tie as tie

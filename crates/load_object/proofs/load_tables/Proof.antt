@@ -7,7 +7,7 @@ use native.Mathlib.Omega.{arith}
 use denote.Ref.{now}
 use lib.ListN.{length, drop}
 use lib.Seq.{length-front}
-use Rattle.model.specs.Lent.{refusedOutcome}
+use Rattle.model.specs.Lent.{lentRoom, refusedOutcome}
 use Rattle.model.specs.PatchList.{patchesOf}
 use Rattle.model.specs.Refusals.{patchRefusal}
 use Rattle.object.specs.View.{objectIn}
@@ -17,7 +17,6 @@ use Rattle.bytes_layout.specs.Parts.{catalogue}
 use Rattle.load_decision.specs.Outcomes.{back-patches, back-small}
 use Rattle.load_decision.specs.Patches.{ready-part}
 use Rattle.load_object.specs.Core.{refused-loads, accepted-loads, fillable}
-use Rattle.load_object.specs.Done.{lentRoom}
 use borrow.Author.Needs.{needs}
 use Rattle.load_object.proofs.load_tables.Statement.{statement}
 use Rattle.load_object.proofs.load_tables.Tie as tie

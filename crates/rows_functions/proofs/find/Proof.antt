@@ -45,19 +45,20 @@ use denote.Triple.Spec.{Meets, tripleOf}
 use denote.Triple.Table.{entered, cited}
 use denote.Triple.Walked.{says, Stays, stay-dropped, walkOf, goes-dropped, Walks, ends-at, walked, walk-meets}
 use denote.Exit.{yes}
+use Rattle.model.specs.declared.Found.{Found}
 use Rattle.model.specs.declared.Function.{Function}
 use Rattle.model.specs.declared.SectionIndex.{SectionIndex}
 use Rattle.model.specs.Lent.{zeroRow}
-use Rattle.rows_functions.specs.declared.Found.{Found}
+use Rattle.model.specs.LookUp.{foundIn}
 use Rattle.rows_functions.specs.declared.Search.{Search}
-use Rattle.rows_functions.specs.Search.{middleOf, begun, narrowed, narrowed-high, narrowed-fewer, searched, searched-end, searched-next, foundIn, found-from}
+use Rattle.rows_functions.specs.Search.{middleOf, begun, narrowed, narrowed-high, narrowed-fewer, foundBy, found-end, found-next, found-from}
 use Rattle.rows_functions.proofs.Parts.{rest-of}
 use Rattle.model.proofs.Function as T
 use Rattle.model.proofs.Function.Laws as T′
 use Rattle.model.proofs.SectionIndex as I
 use Rattle.model.proofs.SectionIndex.Laws as I′
-use Rattle.rows_functions.proofs.Found as F
-use Rattle.rows_functions.proofs.Found.Laws as F′
+use Rattle.model.proofs.Found as F
+use Rattle.model.proofs.Found.Laws as F′
 use Rattle.rows_functions.proofs.Search as S
 use Rattle.rows_functions.proofs.Search.Laws as S′
 use Rattle.rows_functions.proofs.begin as begin
@@ -188,7 +189,7 @@ module _ {M : Type 1} (𝓤 : URA M) (H : Heap 𝓤) (A : Atoms 𝓤) (W : Given
 
   -- the loop's states, with how many halvings are left at most: they find what the whole search finds
   abbrev State : Type 0
-  State = (s : Search) × (j : ℕ) × IsSearch s × (s .high ≤ n) × (s .high - s .low ≤ j) × (searched key ys j s ≡ foundIn ys count key)
+  State = (s : Search) × (j : ℕ) × IsSearch s × (s .high ≤ n) × (s .high - s .low ≤ j) × (foundBy key ys j s ≡ foundIn ys count key)
 
   abbrev Nearer : State → State → Type 0
   Nearer u v = u .1 < v .1
@@ -205,7 +206,7 @@ module _ {M : Type 1} (𝓤 : URA M) (H : Heap 𝓤) (A : Atoms 𝓤) (W : Given
     steps = some-steps (v .0) (v .1) l (v .4)
 
     abbrev narrower : IsSearch (next (v .0)) → State
-    narrower is = (next (v .0), v .1 - 1, is, le-trans (narrowed-high key (v .0) (getD ys (middleOf (v .0)) zeroRow) l) (v .3), steps-left (v .0) (next (v .0)) (v .1) (narrowed-fewer key (v .0) (getD ys (middleOf (v .0)) zeroRow) l) (v .4), sym (searched-next key ys (v .1) (v .0) steps l) ∙ v .5)
+    narrower is = (next (v .0), v .1 - 1, is, le-trans (narrowed-high key (v .0) (getD ys (middleOf (v .0)) zeroRow) l) (v .3), steps-left (v .0) (next (v .0)) (v .1) (narrowed-fewer key (v .0) (getD ys (middleOf (v .0)) zeroRow) l) (v .4), sym (found-next key ys (v .1) (v .0) steps l) ∙ v .5)
 
     falls : (is : IsSearch (next (v .0))) → Nearer (narrower is) v
     falls is = omega (arith, steps)
@@ -272,7 +273,7 @@ module _ {M : Type 1} (𝓤 : URA M) (H : Heap 𝓤) (A : Atoms 𝓤) (W : Given
         assigns ! (of-opd ! (load ! (from ! (fld ! refl (stop !))) (look-in ! 13 (sub ! 2 refl (whole !))))) (from ! (stop !)) (init ! 23 refl (EL.lawful F.the-type F′.the-laws 𝓤 H A W tt .typed (v .0 .found) _ (found-is (v .0) (v .2)) .0)) $
         returns ! (look ! 23 refl) $ forget ! 7 refl $ forget ! 9 refl $ forget ! 13 refl $ forget ! 15 refl $ forget ! 17 refl $ forget ! 19 refl $ forget ! 21 refl $ forget ! 23 refl $
         move ! (23 ∷ 24 ∷ []) $ free1 ! $ move ! (21 ∷ 22 ∷ []) $ free1 ! $ move ! (19 ∷ 20 ∷ []) $ free1 ! $ move ! (17 ∷ 18 ∷ []) $ free1 ! $ move ! (15 ∷ 16 ∷ []) $ free1 ! $ move ! (13 ∷ 14 ∷ []) $ free1 ! $ move ! (11 ∷ 12 ∷ []) $ free1 ! $ move ! (9 ∷ 10 ∷ []) $ free1 ! $ move ! (7 ∷ 8 ∷ []) $ free1 ! $ move ! (5 ∷ 6 ∷ []) $ free1 ! $ move ! (3 ∷ 4 ∷ []) $ free1 ! $ move ! (1 ∷ 2 ∷ []) $ free1 ! $ free0 ! $
-        by ! (exits (v .0 .found) _ (found-is (v .0) (v .2)) (sym (searched-end key ys (v .1) (v .0) (nltb→le (v .0 .low) (v .0 .high) over)) ∙ v .5)))
+        by ! (exits (v .0 .found) _ (found-is (v .0) (v .2)) (sym (found-end key ys (v .1) (v .0) (nltb→le (v .0 .low) (v .0 .high) over)) ∙ v .5)))
 
     starts : (v : State) → Sq W (At′ v) (runs C Λ En mir.t-3 (atRet En Post))
     starts v = first ! $ blocks ! $ loops ! 𝓣 Nearer Nearer-wf At′ turns v

@@ -5,9 +5,10 @@ use native.Mathlib.Omega.{arith}
 use denote.Ref.{now}
 use borrow.Author.Needs.{needs}
 use lib.ListN.{length}
+use Rattle.model.specs.FunctionNumbers.{rowsIn}
 use Rattle.rows_functions.specs.Rows.{madeOf}
 use Rattle.rows_functions.specs.Stored.{restMade, madeAt, rest-none, rest-next, readable-rest}
-use Rattle.rows_numbers.specs.Flat.{rowsIn, stored, stored-none, stored-next, stored-all}
+use Rattle.rows_numbers.specs.Flat.{stored, stored-none, stored-next, stored-all}
 use Rattle.rows_numbers.proofs.fill_rows.Statement.{statement}
 use Rattle.rows_numbers.proofs.fill_rows.Tie as tie
 

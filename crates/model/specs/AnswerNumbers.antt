@@ -1,15 +1,15 @@
--- The answer of a load as the numbers of one struct, and what an exported call leaves behind.
+-- The answer of a load as the numbers of one struct, and what a call from C or Rust leaves behind.
 use Prim.Native.Nat.{ℕ}
 use Rattle.model.specs.declared.Answer.{Answer}
 use Rattle.model.specs.declared.Endianness.{Endianness}
 use Rattle.model.specs.declared.KernelVersion.{KernelVersion}
+use Rattle.model.specs.declared.LoadAnswer.{LoadAnswer}
 use Rattle.model.specs.declared.Refusal.{Refusal}
 use Rattle.model.specs.declared.Summary.{Summary}
 use Rattle.model.specs.Lent.{Lent, Outcome}
 use Rattle.model.specs.Refusals.{noSection, noSymbol}
-use Rattle.rows_functions.specs.declared.Found.{Found}
-use Rattle.buncoyew.specs.declared.LoadAnswer.{LoadAnswer}
 
+-- S102: the byte order and the version as numbers
 abbrev pub orderNumber : Endianness → ℕ
 orderNumber Endianness.Little = 0
 orderNumber Endianness.Big = 1
@@ -22,7 +22,7 @@ abbrev pub statedVersion : KernelVersion → ℕ
 statedVersion KernelVersion.Any = 0
 statedVersion (KernelVersion.Version n) = n
 
--- 'number' is 0: the deposit is accepted
+-- S102: 'number' is 0: the deposit is accepted
 abbrev pub acceptedAnswer : Summary → LoadAnswer
 acceptedAnswer s = record {
   number = 0;
@@ -41,6 +41,7 @@ acceptedAnswer s = record {
   bytes = s .bytes;
 }
 
+-- S102: the refusal's number and places, and zeros
 abbrev pub refusedAnswer : Refusal → LoadAnswer
 refusedAnswer r = record {
   number = r .number;
@@ -63,12 +64,7 @@ abbrev pub answerOf : Answer → LoadAnswer
 answerOf (Answer.Accepted s) = acceptedAnswer s
 answerOf (Answer.Refused r) = refusedAnswer r
 
--- a row's number, or 2^64 - 1
-abbrev pub rowNumber : Found → ℕ
-rowNumber (Found.At i) = i
-rowNumber Found.Nothing = 18446744073709551615
-
--- what an exported call leaves behind: its answer as numbers, and what is lent
+-- S100: what such a call leaves behind: its answer as numbers, and what is lent
 pub record Call : Type 0 where
   pub answer : LoadAnswer
   pub lent : Lent
@@ -76,6 +72,6 @@ pub record Call : Type 0 where
 abbrev pub call : LoadAnswer → Lent → Call
 call a l = record { answer = a; lent = l }
 
--- that of a load's outcome
+-- S100: that of a load's outcome
 abbrev pub callOf : Outcome → Call
-callOf o = record { answer = answerOf (o .reply); lent = o .lent }
+callOf o = call (answerOf (o .reply)) (o .lent)

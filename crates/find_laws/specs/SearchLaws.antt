@@ -10,13 +10,12 @@ use borrow.Author.Tests.{ltb-true, ltb-false}
 use lib.Dec.{ltb}
 use lib.ListN.{length, getD, take}
 use lib.Seq.{getD-take, length-take-le}
+use Rattle.model.specs.declared.Found.{Found}
 use Rattle.model.specs.declared.Function.{Function}
 use Rattle.model.specs.Bytes.{same, before}
 use Rattle.model.specs.Lent.{zeroRow}
+use Rattle.model.specs.LookUp.{rowKey, middle, searched, foundIn}
 use Rattle.orders.specs.Keys.{same-is, before-trans, before-only, after-is}
-use Rattle.orders.specs.Compare.{byTests, ordering}
-use Rattle.rows_functions.specs.declared.Found.{Found}
-use Rattle.rows_functions.specs.Search.{rowKey, middleOf, left, narrowed, narrowedBy, searched, searched-end, foundIn}
 
 module _ (k : List ℕ) where
   -- the place of the first row that has the key; the list's first row stands at place i
@@ -86,14 +85,13 @@ module _ (k : List ℕ) (fs : List Function) (h : ℕ) (within : h ≤ length fs
   -- one halving
   module _ (n low high : ℕ) (l : low < high) (top : high ≤ h) (below : Below low) (above : Above high) where
     abbrev m : ℕ
-    m = middleOf (left low high)
+    m = middle low high
 
     -- what is left finds the place
     abbrev Finds : Type 0
-    Finds = (lo hi : ℕ) → hi - lo ≤ n → hi ≤ h → Below lo → Above hi → searched k fs n (left lo hi) ≡ place
+    Finds = (lo hi : ℕ) → hi - lo ≤ n → hi ≤ h → Below lo → Above hi → searched fs k n lo hi ≡ place
 
-    halved : high - low ≤ suc n → Finds → searched k fs n (narrowed k (left low high) (getD fs m zeroRow)) ≡ place
-    unfolding narrowed ordering
+    halved : high - low ≤ suc n → Finds → cond (same (key m) k) (Found.At m) (cond (before (key m) k) (searched fs k n (m + 1) high) (searched fs k n low m)) ≡ place
     halved steps finds = go (same (key m) k) (before (key m) k) refl refl
       where
         inside : m < h
@@ -107,12 +105,12 @@ module _ (k : List ℕ) (fs : List Function) (h : ℕ) (within : h ≤ length fs
         lower : before k (key m) ≡ true → Above m
         lower e i t u = ⊎-elim (λ q. rw (← q) e) (λ lt. before-trans k (key m) (key i) e (rise m i lt u)) (eq-or-lt-of-le t)
 
-        go : (s t : Bool) → same (key m) k ≡ s → before (key m) k ≡ t → searched k fs n (narrowedBy (left low high) m (byTests s t)) ≡ place
-        go true t p q = searched-end k fs n (record { low = m; high = m; found = Found.At m }) (omega arith) ∙ at-is m inside p
+        go : (s t : Bool) → same (key m) k ≡ s → before (key m) k ≡ t → cond s (Found.At m) (cond t (searched fs k n (m + 1) high) (searched fs k n low m)) ≡ place
+        go true t p q = at-is m inside p
         go false true p q = finds (m + 1) high (omega arith) top (upper q) above
         go false false p q = finds low m (omega arith) (omega arith) below (lower (after-is (key m) k q p))
 
-  finds-place : (n low high : ℕ) → high - low ≤ n → high ≤ h → Below low → Above high → searched k fs n (left low high) ≡ place
+  finds-place : (n low high : ℕ) → high - low ≤ n → high ≤ h → Below low → Above high → searched fs k n low high ≡ place
   unfolding searched
   finds-place zero low high steps top below above = nothing-is low high (omega arith) below above
   finds-place (suc n) low high steps top below above =

@@ -1,2 +1,0 @@
--- What the exported calls say.
-pub mod Called
