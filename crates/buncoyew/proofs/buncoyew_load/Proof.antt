@@ -45,7 +45,7 @@ use Rattle.model.specs.declared.Function.{Function}
 use Rattle.model.specs.declared.LoadAnswer.{LoadAnswer}
 use Rattle.model.specs.AnswerNumbers.{answerOf, call, callOf}
 use Rattle.model.specs.Lent.{lent, roomIn, Outcome, loadOf}
-use Rattle.load_opened.specs.Loads.{Loads}
+use Rattle.load_functions.specs.Loads.{Loads}
 use Rattle.model.proofs.Function as T
 use Rattle.model.proofs.Answer as F
 use Rattle.model.proofs.Answer.Laws as F′

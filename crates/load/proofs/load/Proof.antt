@@ -48,9 +48,9 @@ use Rattle.object_view.specs.declared.Opened.{Opened}
 use Rattle.deposit.specs.Open.{openedOf}
 use Rattle.load_object.specs.Done.{Open, verdictIn}
 use Rattle.load_core.specs.Core.{open-deposit, deposit-outcome}
-use Rattle.load_opened.specs.Loads.{Loads}
-use Rattle.load_opened.specs.Shared.{shares-all}
-use Rattle.load_opened.specs.Slot.{lends-array, array-room}
+use Rattle.load_functions.specs.Loads.{Loads}
+use Rattle.load_functions.specs.Shared.{shares-all}
+use Rattle.load_functions.specs.Slot.{lends-array, array-room}
 use Rattle.model.proofs.Function as T
 use Rattle.model.proofs.Answer as F
 use Rattle.model.proofs.Answer.Laws as F′
