@@ -20,9 +20,9 @@ use Rattle.catalogue_numbers.specs.Numbers.{functionAt, functionNumbers, functi
 use Rattle.accepted_numbers.specs.Numbers.{functions-fit}
 use Rattle.records.specs.Readable.{Readable}
 use Rattle.records.specs.View.{gapOf}
-use Rattle.bytes_code.specs.Code.{AllFit}
+use Rattle.bytes_code.specs.Code.{codeAt, AllFit}
 use Rattle.bytes_layout.specs.Bounds.{all-front}
-use Rattle.bytes_layout.specs.Parts.{catalogue}
+use Rattle.bytes_layout.specs.Parts.{catalogue, function-code}
 use Rattle.model.specs.Catalogue.{Function, Catalogue}
 use Rattle.model.specs.Lent.{filled, sectionName, programName, functionName, functionCode, mapName, mapOwn, bytesOf, sectionsAt, programsAt, functionsAt, codeStart, mapsAt, ownStart}
 use Rattle.model.specs.Object.{Object, Patch}
@@ -74,10 +74,6 @@ module _ (c : Catalogue) where
   unfolding mapsAt
   code-end = refl
 
-  pub code-before : codeStart c ≤ mapsAt c
-  unfolding mapsAt
-  code-before = omega arith
-
   own-start : ownStart c ≡ length (front ++ (code ++ names))
   unfolding ownStart mapsAt
   own-start = sym (length-append front (code ++ names) ∙ (λ i. front-length i + length-append code names i) ∙ omega arith)
@@ -97,7 +93,7 @@ functions-patched : (o : Object) (ps : List Patch) (c : Catalogue) → patched o
 unfolding withMaps
 functions-patched o ps c = ap (λ (e : Catalogue). e .functions) (maps-patched o ps c)
 
--- rewriting is over all code at once
+-- the code of all functions, one after the other
 code-finished : (o : Object) (ps : List Patch) (on : Bool) (c : Catalogue) → AllEncoded (c .functions) → sanitized on (code c) ≡ each functionCode (finish o ps on c .functions)
 unfolding finish rewritten
 code-finished o ps true c h = rewritten-code (c .functions) h ∙ ap (λ (fs : List Function). each functionCode (map rewriteFunction fs)) (sym (functions-patched o ps c))
@@ -180,13 +176,18 @@ untouched o c entries lent out own end e h f =
     let g : own + (end - own) ≡ end = omega arith in
     rw (no-patches entries lent e, ← f) (sym (rw g at (part-whole out own (end - own))))
 
--- a part that is lent and comes back as x
-pub part-back : (t y x : List ℕ) (from to : ℕ) → from ≤ to → y ≡ x → take from t ++ (y ++ drop (to - from) (drop from t)) ≡ take from t ++ (x ++ drop to t)
-part-back t y x from to h e = let g : from + (to - from) ≡ to = omega arith in rw (e, drop-drop (to - from) from t, g)
-
 -- ---- what the numbers in hand say
 
 module _ (d t : List ℕ) (v : View) (r : Readable d t v) (ok : objectRefusal (objectIn d t v) ≡ none) where
+  -- the functions' numbers stand in front of fs: each fits its section, and their code ends where the maps' names begin
+  module _ (fs : List ℕ) (n : ℕ) (inside : n ≤ length fs) (front : take n fs ≡ functionNumbers d t v) where
+    pub front-fit : AllFit d t v fs n
+    front-fit = all-front (FunctionFits d t v) n fs inside (rw front (functions-fit d t v ok r))
+
+    pub code-ends : mapsAt (catalogue d t v) ≡ codeStart (catalogue d t v) + length (each (codeAt d t v) (take n fs))
+    unfolding mapsAt
+    code-ends = ap (λ (l : List ℕ). codeStart (catalogue d t v) + length l) (function-code d t v r ok ∙ ap (each (codeAt d t v)) (sym front))
+
   pub functions-encoded : (small : (k : ℕ) → byteAt d (gapOf v) k < 256) → AllEncoded (catalogue d t v .functions)
   functions-encoded small =
       let ns = functionNumbers d t v in

@@ -1,2 +1,3 @@
 -- The bytes of an accepted catalogue, patched and rewritten.
 pub mod Finished
+pub mod Functions

@@ -187,6 +187,8 @@ fn fill_and_finish(
         patches,
         rewrite,
         plan.places,
+        f,
+        plan.counts.functions,
         symbols,
         by,
         maps,

@@ -13,7 +13,7 @@ use Rattle.stream.specs.Stream.{place, byteAt}
 use Rattle.object.specs.View.{objectIn}
 use Rattle.bytes_layout.specs.Held.{parts-inside}
 use Rattle.bytes_layout.specs.Parts.{catalogue}
-use Rattle.load_finish.specs.Finished.{code-before, functions-encoded, behind-filled, own-there, all-finished, long-done}
+use Rattle.load_finish.specs.Finished.{front-fit, code-ends, functions-encoded, behind-filled, own-there, all-finished, long-done}
 use borrow.Author.Needs.{needs}
 use Rattle.load_finish.proofs.finish_bytes.Statement.{statement}
 use Rattle.load_finish.proofs.finish_bytes.Tie as tie
@@ -21,18 +21,18 @@ use Rattle.load_finish.proofs.finish_bytes.Tie as tie
 patch-bytes-requires : tie.Need-patch-bytes-requires
 unfolding byteAt
 patch-bytes-requires c κs =
-    let z = c .before .before .before .before .before .before .before .before .before in
+    let z = c .before .before .before .before .before .before .before .before .before .before in
     let a = z .args in
     let d = now (a .d) in
     let k = catalogue d (now (a .t)) (a .v) in
     let q = z .pre .3 in
     let o = objectIn d (now (a .t)) (a .v) in
     let ps = patchesOf (now (a .entries)) (now (a .patches)) in
-    let small : (i : ℕ) → byteAt d (gapOf (a .v)) i < 256 = λ i. omega (arith, c .before .before .before .before .before .before .before .before .shared-slice-known .given (place (gapOf (a .v)) i)) in
+    let small : (i : ℕ) → byteAt d (gapOf (a .v)) i < 256 = λ i. omega (arith, c .before .before .before .before .before .before .before .before .before .shared-slice-known .given (place (gapOf (a .v)) i)) in
     let enc = functions-encoded d (now (a .t)) (a .v) (z .pre .0) (z .pre .1) small in
-    let l = behind-filled (bytesOf k) (now (a .out)) (a .places .end) (q .end) (z .pre .5) in
+    let l = behind-filled (bytesOf k) (now (a .out)) (a .places .end) (q .end) (z .pre .7) in
     let w = parts-inside k in (
-      z .pre .4,
+      z .pre .6,
       z .pre .2,
       omega (arith, q .own, q .end, w .own),
       l .2,
@@ -41,13 +41,15 @@ patch-bytes-requires c κs =
 
 rewrite-code-requires : tie.Need-rewrite-code-requires
 rewrite-code-requires c κs =
-    let z = c .before .before .before .before .before .before .before .before .before .before .before .before .before in
+    let z = c .before .before .before .before .before .before .before .before .before .before .before .before .before .before in
     let a = z .args in
     let q = z .pre .3 in
     let k = catalogue (now (a .d)) (now (a .t)) (a .v) in
     let w = parts-inside k in
-    let l = behind-filled (bytesOf k) (now (a .out)) (a .places .end) (q .end) (z .pre .5) in
-    (omega (arith, q .code, q .maps, code-before k), omega (arith, q .maps, q .end, w .maps, c .before .before .before .patch-bytes .kept .1 .1 .1 .1 .1 .1 .1 .1 .1 .1 .0, l .2))
+    let l = behind-filled (bytesOf k) (now (a .out)) (a .places .end) (q .end) (z .pre .7) in
+    let front = front-fit (now (a .d)) (now (a .t)) (a .v) (z .pre .0) (z .pre .1) (now (a .functions)) (a .n) (z .pre .4) (z .pre .5) in
+    let ends = code-ends (now (a .d)) (now (a .t)) (a .v) (z .pre .0) (z .pre .1) (now (a .functions)) (a .n) (z .pre .4) (z .pre .5) in
+    (z .pre .0, z .pre .4, front, omega (arith, q .code, q .maps, ends), omega (arith, q .maps, q .end, w .maps, c .before .before .before .patch-bytes .kept .1 .1 .1 .1 .1 .1 .1 .1 .1 .1 .0, l .2))
 
 same-length : tie.Need-same-length
 same-length c = search needs
@@ -55,16 +57,16 @@ same-length c = search needs
 returns : tie.Need-returns
 unfolding byteAt
 returns c =
-    let z = c .before .before .before .before .before .before .before .before .before .before .before .before .before .before .before .before in
+    let z = c .before .before .before .before .before .before .before .before .before .before .before .before .before .before .before .before .before in
     let a = z .args in
     let d = now (a .d) in
     let k = catalogue d (now (a .t)) (a .v) in
     let q = z .pre .3 in
     let o = objectIn d (now (a .t)) (a .v) in
     let ps = patchesOf (now (a .entries)) (now (a .patches)) in
-    let small : (i : ℕ) → byteAt d (gapOf (a .v)) i < 256 = λ i. omega (arith, c .before .before .before .before .before .before .before .before .before .before .before .before .before .before .before .shared-slice-known .given (place (gapOf (a .v)) i)) in
+    let small : (i : ℕ) → byteAt d (gapOf (a .v)) i < 256 = λ i. omega (arith, c .before .before .before .before .before .before .before .before .before .before .before .before .before .before .before .before .shared-slice-known .given (place (gapOf (a .v)) i)) in
     let enc = functions-encoded d (now (a .t)) (a .v) (z .pre .0) (z .pre .1) small in
-    let l = behind-filled (bytesOf k) (now (a .out)) (a .places .end) (q .end) (z .pre .5) in
+    let l = behind-filled (bytesOf k) (now (a .out)) (a .places .end) (q .end) (z .pre .7) in
     let e =
     all-finished o ps (a .rewrite) k enc (now (a .out)) (now (a .out)) _ _ (a .places .code) (a .places .maps) (a .places .own) (a .places .end) (q .code) (q .maps) (q .own) (q .end) (l .0)
     (c .before .before .before .before .before .before .patch-bytes .ensures) (c .before .before .rewrite-code .ensures)
