@@ -1,5 +1,5 @@
--- The code of many functions, laid one after the other, is rewritten in one go.
-use mathlib.Core.Path.{_≡_, refl, sym, ap, _∙_}
+-- The code of functions, laid one after the other, rewritten.
+use mathlib.Core.Path.{_≡_, refl, _∙_}
 use mathlib.Core.Bool.{true}
 use mathlib.Core.List.{List, [], _∷_, _++_, map}
 use Prim.Native.Nat.{ℕ, zero, suc, _*_, _/_, _<_}
@@ -12,12 +12,11 @@ use Rattle.model.specs.Instruction.{instructions}
 use Rattle.model.specs.Lent.{functionCode}
 use Rattle.model.specs.Patching.{rewriteFunction}
 use Rattle.stream.specs.Stream.{byteAt}
-use Rattle.catalogue_laws.specs.Numbers.{each-map}
 use Rattle.records.specs.View.{gapOf, symbolAt}
 use Rattle.insn.specs.Sanitized.{sanitized, sanitized-code, sanitized-join, length-each-eight}
 use Rattle.catalogue_numbers.specs.Numbers.{functionAt}
 use Rattle.catalogue_numbers.specs.Fits.{FunctionFits}
-use Rattle.bytes_code.specs.Code.{codeAt, bytesOf, code-read, AllFit, bytes-found}
+use Rattle.bytes_code.specs.Code.{bytesOf, code-read, AllFit, bytes-found}
 
 -- a function whose instructions were read from bytes
 pub record Encoded (f : Function) : Type 0 where
@@ -55,9 +54,3 @@ module _ (d t : List ℕ) (v : View) (small : (k : ℕ) → byteAt d (gapOf v) k
   all-encoded [] (suc n) fit = tt
   all-encoded (j ∷ order) zero fit = tt
   all-encoded (j ∷ order) (suc n) fit = (encoded j (fit 0 (omega arith)), all-encoded order n (λ k l. fit (suc k) (omega arith)))
-
-  pub rewritten-numbers : (order : List ℕ) (n : ℕ) → AllFit d t v order n
-      → sanitized true (each (codeAt d t v) (take n order)) ≡ each functionCode (map rewriteFunction (map (functionAt d t v) (take n order)))
-  rewritten-numbers order n fit =
-      ap (sanitized true) (sym (each-map functionCode (functionAt d t v) (take n order)))
-      ∙ rewritten-code (map (functionAt d t v) (take n order)) (all-encoded order n fit)
