@@ -10,8 +10,8 @@ def ask(c, call, B):
     c.bind('calls-at ! fm Test known-test to-test %s (λ v.' % c.opds(W['lst'](call[2]))); c.nl(); c.c[0] = 'post'
     c.e('use1 W (later (some (λ (y : Bool). (‵ ftrue ⊛ ‵ (Boolean .own y (v ∷ []))) ⊛ raw (ensured 𝓤 H A small.ended (testOf 𝓤 %s) tt (opened, tt) tt y)))) (id⊢ 𝓤 _)' % B); c.await_(); c.pick('y')
     c.split('post', 'tr', 'ens'); c.move('ens')
-    c.e('use1 W (some (λ (zs : Unit {0} × Unit {0}). ‵ (lasts small.ended tt (opened, tt) zs) ⊛ raw (fact 𝓤 (y ≡ leb (symbolsOf opened) %s)))) (id⊢ 𝓤 _)' % B); c.pick('zs')
-    c.split('ens', 'las', 'says'); c.drop('las'); c.move('says'); c.bind('heard ! (y ≡ leb (symbolsOf opened) %s) (λ e.' % B); c.c.pop(0); c.nl()
+    c.e('use1 W (some (λ (zs : Unit {0} × Unit {0}). ‵ (lasts small.ended tt (opened, tt) zs) ⊛ raw (fact 𝓤 (y ≡ leb (symbolCount opened) %s)))) (id⊢ 𝓤 _)' % B); c.pick('zs')
+    c.split('ens', 'las', 'says'); c.drop('las'); c.move('says'); c.bind('heard ! (y ≡ leb (symbolCount opened) %s) (λ e.' % B); c.c.pop(0); c.nl()
     c.split('tr', 'true', 'ownb'); c.drop('true'); c.move('ownb'); c.bind('peeks ! Boolean (Is Boolean) (shows 𝓤 H A Boolean) y (v ∷ []) (λ is.')
     c.land(k, '(bool-lawful 𝓤 H A W .typed y _ is .0)')
     c.e('rewrite ! %d (λ (u : Val). ‵ (fat fullShare tyBool l%s 0 u)) (ap only is) refl' % (c.pos('_%d' % k), sub(k)), True)

@@ -35,7 +35,7 @@ ask(c, call0, 'B')
 c.note('[the tokens; what the parameters own; the locals]')
 TWO = Sig([(0, '2', 'count', None)] + S.P)
 values = list(range(0, 15))
-A1 = Arm(S, S, 'One', 'at', 'load′.ended', 'outer.clausesOf 𝓤 H A W (AtMost B)', 'goes-one (most-of y (symbolsOf opened) B e yes)', 'calls-at-last ! fm One known-one at', 'Lasts', 'En ' + ls_, tail, values).text(c, cond[2])
+A1 = Arm(S, S, 'One', 'at', 'load′.ended', 'outer.clausesOf 𝓤 H A W (AtMost B)', 'goes-one (most-of y (symbolCount opened) B e yes)', 'calls-at-last ! fm One known-one at', 'Lasts', 'En ' + ls_, tail, values).text(c, cond[2])
 A2 = Arm(S, TWO, 'Two', 'to-two', 'more.ended', 'outer-more.clausesOf 𝓤 H A W Open', 'goes-two', 'calls-at-last ! fm Two known-two to-two', 'Unit {0} × (Lasts)', 'En ' + ls_, tail, values).text(c, cond[3])
 c.e('first !'); c.line += 'branches ! %s' % c.opd(cond[1])[0]; c.nl()
 WALK = '\n'.join(c.out) + '\n        (λ yes. ' + A1.lstrip() + ')\n        (λ no. ' + A2.lstrip() + ')' + ')' * c.open
@@ -47,7 +47,7 @@ most-of y n m e yes = leb→le n m (subst T e yes)
 module _ {{M : Type 1}} (𝓤 : URA M) where
   -- what the test says, which has the signature of `is_small`
   abbrev pub testOf : ℕ → Clauses 𝓤 small.ended
-  testOf B κs a = record {{ ghost = Unit {{0}}; requires = λ _. emp 𝓤; ensures = λ _ r end. fact 𝓤 (r ≡ leb (symbolsOf (a .0)) B) }}
+  testOf B κs a = record {{ ghost = Unit {{0}}; requires = λ _. emp 𝓤; ensures = λ _ r end. fact 𝓤 (r ≡ leb (symbolCount (a .0)) B) }}
 
 module _ {{M : Type 1}} (𝓤 : URA M) (H : Heap 𝓤) (A : Atoms 𝓤) (W : Given 𝓤 H A) where
   -- the contracts that the proof cites
@@ -108,7 +108,7 @@ module _ {{M : Type 1}} (𝓤 : URA M) (H : Heap 𝓤) (A : Atoms 𝓤) (W : Giv
   abbrev to-two : Two .Ghost
   to-two = (({TWO.kaps}, {TWO.qs}, tt, {TWO.args}, {TWO.vals}), tt)
 
-  goes-one : symbolsOf opened ≤ B → ent 𝓤 (⋆ 𝓤 H A (Toks ∷ Owned ∷ [])) (One .pre at)
+  goes-one : symbolCount opened ≤ B → ent 𝓤 (⋆ 𝓤 H A (Toks ∷ Owned ∷ [])) (One .pre at)
   goes-one few = qed W (Toks ∷ Owned ∷ []) ∵ says ! (opens, few) $ done !
 
   goes-two : ent 𝓤 (⋆ 𝓤 H A (Toks ∷ Owned ∷ [])) (Two .pre to-two)

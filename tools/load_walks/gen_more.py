@@ -22,7 +22,7 @@ A1 = Arm(S, BARE, 'All', 'at', 'load′.ended', 'outer.clausesOf 𝓤 H A W Open
 m = Ctx(c.c); m.fits = dict(c.fits); m.fn = c.fn; m.n = c.n
 ask(m, call0, '2048')
 values = list(range(0, 16)) + [28, 29]
-A2 = Arm(S, BARE, 'Some', 'at', 'load′.ended', 'outer.clausesOf 𝓤 H A W (AtMost 2048)', 'goes-some (most-of y (symbolsOf opened) 2048 e yes)', 'calls-at-last ! fm Some known-some at', LASTS, e_, tail, values, back).text(m, inner_if[2])
+A2 = Arm(S, BARE, 'Some', 'at', 'load′.ended', 'outer.clausesOf 𝓤 H A W (AtMost 2048)', 'goes-some (most-of y (symbolCount opened) 2048 e yes)', 'calls-at-last ! fm Some known-some at', LASTS, e_, tail, values, back).text(m, inner_if[2])
 A3 = Arm(S, SELF, 'Self', 'again', 'more.ended', 'outer-more.clausesOf 𝓤 H A W Open', 'goes-self', 'calls-from-last ! fm (raw (Self .pre again)) (Self .args again) (Self .post again) (smaller again (falls tries left))', 'Unit {0} × (Lasts)', e_, tail, values, back).text(m, inner_if[3])
 TYS = [par(t) for t in LA]
 def items(ctx, vals):
@@ -154,7 +154,7 @@ module _ {{M : Type 1}} (𝓤 : URA M) (H : Heap 𝓤) (A : Atoms 𝓤) (W : Giv
   abbrev again : Self .Ghost
   again = (({SELF.kaps}, {SELF.qs}, tt, {SELF.args}, {SELF.vals}), tt)
 
-  goes-some : symbolsOf opened ≤ 2048 → ent 𝓤 (⋆ 𝓤 H A (Toks ∷ Rest ∷ [])) (Some .pre at)
+  goes-some : symbolCount opened ≤ 2048 → ent 𝓤 (⋆ 𝓤 H A (Toks ∷ Rest ∷ [])) (Some .pre at)
   goes-some few = qed W (Toks ∷ Rest ∷ []) ∵ says ! (opens, few) $ done !
 
   goes-all : ent 𝓤 (⋆ 𝓤 H A (Toks ∷ Rest ∷ [])) (All .pre at)
@@ -190,7 +190,7 @@ module _ {{M : Type 1}} (𝓤 : URA M) (H : Heap 𝓤) (A : Atoms 𝓤) (W : Giv
       whole-arm yes =
 {A1}
 
-      some-arm : (y : Bool) → y ≡ leb (symbolsOf opened) 2048 → T y → Sq W (Asked y) (runs C Λ Here some-body Then-back)
+      some-arm : (y : Bool) → y ≡ leb (symbolCount opened) 2048 → T y → Sq W (Asked y) (runs C Λ Here some-body Then-back)
       some-arm y e yes =
 {A2}
 

@@ -71,7 +71,7 @@ module _ {M : Type 1} (𝓤 : URA M) (H : Heap 𝓤) (A : Atoms 𝓤) (W : Given
 
 ATMOST = '''-- what was opened can be read, and has at most B symbols
 abbrev pub AtMost : ℕ → List ℕ → List ℕ → Opened → Type 0
-AtMost B d t o = Open d t o × (symbolsOf o ≤ B)
+AtMost B d t o = Open d t o × (symbolCount o ≤ B)
 
 '''
 def put(file, head, body, heads):

@@ -178,7 +178,7 @@ module _ {{M : Type 1}} (𝓤 : URA M) (H : Heap 𝓤) (A : Atoms 𝓤) (mem : M
 
 module _ {{M : Type 1}} (𝓤 : URA M) (H : Heap 𝓤) (A : Atoms 𝓤) (W : Given 𝓤 H A) (mem : Memory → SProp 𝓤) (run : Routine → Fun 𝓤) (N : ℕ) (N-room : Room u32 N) (len : Operand) (says-N : Const 𝓤 H len N)
     {S.KQX}
-    {S.ROOMS} (opens : Open (x₁ .now) (x₂ .now) opened) (fits : symbolsOf opened ≤ N) where
+    {S.ROOMS} (opens : Open (x₁ .now) (x₂ .now) opened) (fits : symbolCount opened ≤ N) where
   abbrev n : ℕ
   n = length (x₉ .now)
 
@@ -227,7 +227,7 @@ module _ {{M : Type 1}} (𝓤 : URA M) (H : Heap 𝓤) (A : Atoms 𝓤) (W : Giv
   to-core l μ ε = ((core-κs μ, {nest([V('q', q) for q in ck] + ['fullShare'])}, tt, core-args l ε, core-vals l), tt)
 
   goes-core : (l μ : ℕ) (ε : GName) → ent 𝓤 (⋆ 𝓤 H A (CToks μ ∷ ‵ (owns ({core_tys}) (core-args l ε) (core-vals l)) ∷ [])) (Core 𝓤 H A mem run .pre (to-core l μ ε))
-  goes-core l μ ε = qed W (CToks μ ∷ ‵ (owns ({core_tys}) (core-args l ε) (core-vals l)) ∷ []) ∵ says ! (opens, subst (λ (m : ℕ). symbolsOf opened ≤ m) (sym (length-zeros N)) fits) $ done !
+  goes-core l μ ε = qed W (CToks μ ∷ ‵ (owns ({core_tys}) (core-args l ε) (core-vals l)) ∷ []) ∵ says ! (opens, subst (λ (m : ℕ). symbolCount opened ≤ m) (sym (length-zeros N)) fits) $ done !
 
   abbrev FToks : ℕ → Item 𝓤
   FToks ν = ‵ (flft κ₉ q₉) ⊛ ‵ (flft κ₁ q₁) ⊛ ‵ (flft κ₂ q₂) ⊛ ‵ (flft (ν ∷ []) fullShare) ⊛ ‵ ftrue
@@ -280,7 +280,7 @@ module _ {{M : Type 1}} (𝓤 : URA M) (H : Heap 𝓤) (A : Atoms 𝓤) (W : Giv
 
 -- what is asked has the array large enough
 pub sized : {{M : Type 1}} (𝓤 : URA M) (H : Heap 𝓤) (A : Atoms 𝓤) (W : Given 𝓤 H A) (mem : Memory → SProp 𝓤) (run : Routine → Fun 𝓤) (N : ℕ) → Room u32 N → (len : Operand) → Const 𝓤 H len N
-    → (Asks : List ℕ → List ℕ → Opened → Type 0) → ((d t : List ℕ) (o : Opened) → Asks d t o → Open d t o × (symbolsOf o ≤ N))
+    → (Asks : List ℕ → List ℕ → Opened → Type 0) → ((d t : List ℕ) (o : Opened) → Asks d t o → Open d t o × (symbolCount o ≤ N))
     → (𝓣 : Tables 𝓤 H) → Triple 𝓤 (𝓣 .C #load-core) (Core 𝓤 H A mem run) → Triple 𝓤 (𝓣 .C #fill) (Fill 𝓤 H A mem run)
     → Meets 𝓤 H A load′.signature (WpFn 𝓤 H (𝓣 .C) (𝓣 .Λ) (function N len)) (closing 𝓤 H A load′.ended (outer.clausesOf 𝓤 H A W Asks))
 sized 𝓤 H A W mem run N room len says-N Asks enough 𝓣 known-core known-fill =

@@ -55,7 +55,7 @@ use Rattle.deposit.specs.Open.{openedOf}
 use Rattle.rows_functions.specs.declared.Rows.{Rows}
 use Rattle.rows_functions.specs.Rows.{ReadableRows, rowsMade}
 use Rattle.load_object.specs.declared.Loaded.{Loaded}
-use Rattle.load_object.specs.Done.{Open, symbolsOf, verdictIn, CoreDone}
+use Rattle.load_object.specs.Done.{Open, symbolCount, verdictIn, CoreDone}
 use Rattle.load_core.specs.Core.{open-deposit, deposit-outcome}
 use @SPECS.Loads.{Loads}
 use Rattle·@CRATE·proofs.proofs.Again.{LentAgain, lends-again, comes-back}

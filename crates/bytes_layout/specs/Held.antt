@@ -76,33 +76,33 @@ pub record Inside (c : Catalogue) : Type 0 where
   pub maps : mapsAt c ≤ length (bytesOf c)
   pub own : ownStart c + length (each mapOwn (c .maps)) ≡ length (bytesOf c)
 
-pub inside : (c : Catalogue) → Inside c
+pub parts-inside : (c : Catalogue) → Inside c
 unfolding ownStart mapsAt codeStart functionsAt programsAt sectionsAt
-inside c =
+parts-inside c =
     let e = bytes-end c in
     record { sections = omega arith; programs = omega arith; functions = omega arith; code = omega arith; maps = omega arith; own = sym e }
 
 -- ---- parts laid one after the other at the front of a list
 
-pub record Laid (t : List ℕ) (a : ℕ) (l out : List ℕ) : Type 0 where
+pub record LaidInFront (t : List ℕ) (a : ℕ) (l out : List ℕ) : Type 0 where
   pub reach : a ≡ length l
   pub within : a ≤ length t
   pub held : out ≡ l ++ drop a t
 
-pub laid-length : {t : List ℕ} {a : ℕ} {l out : List ℕ} → Laid t a l out → length out ≡ length t
+pub laid-length : {t : List ℕ} {a : ℕ} {l out : List ℕ} → LaidInFront t a l out → length out ≡ length t
 laid-length {t} {a} {l} {out} p =
     let w = p .within in
     let e = p .reach in
     ap length (p .held) ∙ rw (length-append, length-drop) (omega arith)
 
-pub laid-first : (l t out : List ℕ) (a : ℕ) → a ≡ length l → a ≤ length t → out ≡ l ++ drop a t → Laid t a l out
+pub laid-first : (l t out : List ℕ) (a : ℕ) → a ≡ length l → a ≤ length t → out ≡ l ++ drop a t → LaidInFront t a l out
 laid-first l t out a e h f = record { reach = e; within = h; held = f }
 
-pub laid-all : {t : List ℕ} {a : ℕ} {l out : List ℕ} → Laid t a l out → (x : List ℕ) → l ≡ x → out ≡ x ++ drop (length x) t
+pub laid-all : {t : List ℕ} {a : ℕ} {l out : List ℕ} → LaidInFront t a l out → (x : List ℕ) → l ≡ x → out ≡ x ++ drop (length x) t
 laid-all {t} {a} {l} {out} p x e = p .held ∙ ap (λ (n : ℕ). l ++ drop n t) (p .reach) ∙ ap (λ (y : List ℕ). y ++ drop (length y) t) e
 
-pub laid-more : {t : List ℕ} {a : ℕ} {l out : List ℕ} → Laid t a l out → (x next : List ℕ) (b : ℕ) → b ≡ a + length x → b ≤ length t → next ≡ take a out ++ (x ++ drop b out)
-    → Laid t b (l ++ x) next
+pub laid-more : {t : List ℕ} {a : ℕ} {l out : List ℕ} → LaidInFront t a l out → (x next : List ℕ) (b : ℕ) → b ≡ a + length x → b ≤ length t → next ≡ take a out ++ (x ++ drop b out)
+    → LaidInFront t b (l ++ x) next
 laid-more {t} {a} {l} {out} p x next b e room f =
     let g : length x ≡ b - a = omega arith in
     let q : a + (b - a) ≡ b = omega arith in

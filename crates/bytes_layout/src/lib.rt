@@ -53,14 +53,14 @@ fn part_length(d: &[u8], t: &[u32], v: View, part: Part, j: u32) -> usize
 }
 
 // How many bytes the first n numbers have of a part.
-fn total(d: &[u8], t: &[u32], v: View, part: Part, order: &[u32], n: usize) -> usize
-    requires { ⌜ Listed part (now d) (now t) v (now order) n ⌝ }
-    ensures { λ r. ⌜ (r ≡ length (each (partOf part (now (d .entry)) (now (t .entry)) v) (take n (now (order .entry))))) × (r ≤ 69632 * 16777216) ⌝ }
+fn total(d: &[u8], t: &[u32], v: View, part: Part, numbers: &[u32], n: usize) -> usize
+    requires { ⌜ Listed part (now d) (now t) v (now numbers) n ⌝ }
+    ensures { λ r. ⌜ (r ≡ length (each (partOf part (now (d .entry)) (now (t .entry)) v) (take n (now (numbers .entry))))) × (r ≤ 69632 * 16777216) ⌝ }
 {
     let mut sum: usize = 0;
     let mut k: usize = 0;
     while k < n {
-        sum += part_length(d, t, v, part, order[k]);
+        sum += part_length(d, t, v, part, numbers[k]);
         k += 1;
     }
     sum
@@ -88,25 +88,25 @@ fn put_part(
     t: &[u32],
     v: View,
     part: Part,
-    order: &[u32],
+    numbers: &[u32],
     n: usize,
     out: &mut [u8],
     at: usize,
 ) -> usize
     requires { ⌜
-        Listed part (now d) (now t) v (now order) n × (at + length (each (partOf part (now d) (now t) v) (take n (now order))) ≤ length (now out))
+        Listed part (now d) (now t) v (now numbers) n × (at + length (each (partOf part (now d) (now t) v) (take n (now numbers))) ≤ length (now out))
         ⌝ }
     ensures { λ r.
         ⌜
-        (r ≡ at + length (each (partOf part (now (d .entry)) (now (t .entry)) v) (take n (now (order .entry)))))
+        (r ≡ at + length (each (partOf part (now (d .entry)) (now (t .entry)) v) (take n (now (numbers .entry)))))
         × (now (out .exit)
-        ≡ take at (now (out .entry)) ++ (each (partOf part (now (d .entry)) (now (t .entry)) v) (take n (now (order .entry))) ++ drop r (now (out .entry))))
+        ≡ take at (now (out .entry)) ++ (each (partOf part (now (d .entry)) (now (t .entry)) v) (take n (now (numbers .entry))) ++ drop r (now (out .entry))))
         ⌝ }
 {
     let mut o = at;
     let mut k: usize = 0;
     while k < n {
-        o = put_one(d, t, v, part, order[k], out, o);
+        o = put_one(d, t, v, part, numbers[k], out, o);
         k += 1;
     }
     o

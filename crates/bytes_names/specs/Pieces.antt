@@ -41,8 +41,8 @@ module _ (d t : List ℕ) (v : View) (j : ℕ) where
       go (MapSource.Symbol k) = refl
 
 -- they lie inside the stream
-abbrev pub Placed : Piece → List ℕ → List ℕ → View → ℕ → Type 0
-Placed which d t v j = place (gapOf v) (v .at .names + extentOf which d t v j .at + extentOf which d t v j .length) ≤ length d
+abbrev pub PieceInside : Piece → List ℕ → List ℕ → View → ℕ → Type 0
+PieceInside which d t v j = place (gapOf v) (v .at .names + extentOf which d t v j .at + extentOf which d t v j .length) ≤ length d
 
 -- ---- a range that was read
 
@@ -54,5 +54,5 @@ module _ (which : Piece) (d t : List ℕ) (v : View) (j : ℕ) (x : Extent) (rea
     pub piece-bytes : bytesAt d gap p n ≡ pieceOf which d t v j
     piece-bytes = rw (same, at, long, read)
 
-    pub piece-placed : Placed which d t v j → place gap (p + n) ≤ length d
+    pub piece-placed : PieceInside which d t v j → place gap (p + n) ≤ length d
     piece-placed l = rw (same, at, long, read) l

@@ -4,7 +4,7 @@ ghost use mathlib.Core.List.{_++_};
 ghost use Prim.Native.Nat.{_+_, _^_, _<_, _≤_, min};
 ghost use lib.ListN.{length, take, drop};
 ghost use Rattle.stream.specs.Stream.{bytesAt, place as placeOf};
-ghost use Rattle.bytes_names.specs.Pieces.{extentOf, pieceOf, Placed};
+ghost use Rattle.bytes_names.specs.Pieces.{extentOf, pieceOf, PieceInside};
 use lists::copy8;
 use model::Extent;
 use object_view::View;
@@ -78,7 +78,7 @@ pub fn put_name(
     out: &mut [u8],
     at: usize,
 ) -> usize
-    requires { ⌜ Placed which (now d) (now t) v j × (at + length (pieceOf which (now d) (now t) v j) ≤ length (now out)) ⌝ }
+    requires { ⌜ PieceInside which (now d) (now t) v j × (at + length (pieceOf which (now d) (now t) v j) ≤ length (now out)) ⌝ }
     ensures { λ r.
         ⌜
         (r ≡ at + length (pieceOf which (now (d .entry)) (now (t .entry)) v j))

@@ -67,15 +67,15 @@ pub map-start : (g : ℕ → ℕ) (f : ℕ) (l : List ℕ) → map g (slice f f 
 map-start g f l = let h : f ≤ f = omega arith in rw (slice-none f f l h)
 
 -- xs lies in t behind its first w, up to n, and the rest is as it was
-pub record Laid (w n : ℕ) (xs t out : List ℕ) : Type 0 where
+pub record LaidFrom (w n : ℕ) (xs t out : List ℕ) : Type 0 where
   pub count : n ≡ w + length xs
   pub held : out ≡ take w t ++ (xs ++ drop n t)
 
-pub laid-none : (w : ℕ) (xs t : List ℕ) → xs ≡ [] → Laid w w xs t t
+pub laid-none : (w : ℕ) (xs t : List ℕ) → xs ≡ [] → LaidFrom w w xs t t
 laid-none w xs t e = record { count = rw e (omega arith); held = rw e (put-none w t) }
 
-module _ {w n : ℕ} {xs t out : List ℕ} (a : Laid w n xs t out) where
-  pub laid-next : (v : ℕ) (ys : List ℕ) → n < length t → ys ≡ xs ++ (v ∷ []) → Laid w (n + 1) ys t (set out n v)
+module _ {w n : ℕ} {xs t out : List ℕ} (a : LaidFrom w n xs t out) where
+  pub laid-next : (v : ℕ) (ys : List ℕ) → n < length t → ys ≡ xs ++ (v ∷ []) → LaidFrom w (n + 1) ys t (set out n v)
   laid-next v ys h e =
       record {
         count = rw (e, length-append) (omega (arith, a .count));

@@ -30,7 +30,7 @@ use Rattle.deposit_rules.specs.Parts.{head-stream, parts-sections, parts-symbol
 use Rattle.deposit_rules.specs.Rules.{ruled, nameByte, nameAt, nameOkAt, sectionOkAt, symbolOkAt, sectionsOk, symbolsOk, relocationsOk, restOk, recordsOkAt, someBtf, ruled-all, name-cut}
 use Rattle.deposit_rules.specs.declared.Checked.{Checked}
 use Rattle.object_view.specs.declared.Opened.{Opened}
-use Rattle.deposit.specs.Open.{openedOf, streamLength, streamOkAt, checkedStream, Framed, framed, btf, answerOf, opened-1, opened-checked}
+use Rattle.deposit.specs.Open.{openedOf, streamLength, streamOkAt, checkedStream, Framed, framed, btf, openedBy, opened-1, opened-checked}
 
 -- ---- the object's parts, by their places
 
@@ -344,7 +344,7 @@ pub accepted : (d : List ℕ) (v : View) → openedOf d ≡ Opened.View v → (v
 unfolding checkedStream
 accepted d v e = go (frameOk d) refl
   where
-    opened : frameOk d ≡ true → (c : Checked) → checkedStream d (headAt d) ≡ c → answerOf c (headAt d) ≡ Opened.View v
+    opened : frameOk d ≡ true → (c : Checked) → checkedStream d (headAt d) ≡ c → openedBy c (headAt d) ≡ Opened.View v
         → (v ≡ depositView (headAt d)) × Accepted d (headAt d)
     opened f Checked.Broken p q = let z : _≡_ {A = ℕ} 0 1 = cc in absurd (omega arith)
     opened f Checked.Btf p q = let z : _≡_ {A = ℕ} 0 1 = cc in absurd (omega arith)

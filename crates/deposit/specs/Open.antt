@@ -93,16 +93,16 @@ module _ (d : List ℕ) (f : Framed d) where
 -- ---- what opening answers
 
 -- the answer of a deposit whose blocks pass, by what its stream says
-abbrev pub answerOf : Checked → Head → Opened
-answerOf Checked.Broken h = Opened.Refused (withoutPlace 2)
-answerOf Checked.Btf h = Opened.Refused (withoutPlace 3)
-answerOf Checked.Fine h = Opened.View (depositView h)
+abbrev pub openedBy : Checked → Head → Opened
+openedBy Checked.Broken h = Opened.Refused (withoutPlace 2)
+openedBy Checked.Btf h = Opened.Refused (withoutPlace 3)
+openedBy Checked.Fine h = Opened.View (depositView h)
 
 pub opened-1 : (d : List ℕ) → frameOk d ≡ false → openedOf d ≡ Opened.Refused (withoutPlace 1)
 unfolding openedOf depositRefusal
 opened-1 d e = rw e
 
-pub opened-checked : (d : List ℕ) → frameOk d ≡ true → openedOf d ≡ answerOf (checkedStream d (headAt d)) (headAt d)
+pub opened-checked : (d : List ℕ) → frameOk d ≡ true → openedOf d ≡ openedBy (checkedStream d (headAt d)) (headAt d)
 unfolding openedOf depositRefusal checkedStream
 opened-checked d e = rw (e, stream-ok d f, head-stream d (f .whole) (f .some)) (go (streamOkAt d h) refl)
   where
@@ -112,13 +112,13 @@ opened-checked d e = rw (e, stream-ok d f, head-stream d (f .whole) (f .some)) (
     h : Head
     h = headAt d
 
-    last : (t : Bool) → maybe (ofDeposit 3 t) (Opened.View (depositView h)) (λ r. Opened.Refused r) ≡ answerOf (cond t Checked.Btf Checked.Fine) h
+    last : (t : Bool) → maybe (ofDeposit 3 t) (Opened.View (depositView h)) (λ r. Opened.Refused r) ≡ openedBy (cond t Checked.Btf Checked.Fine) h
     last true = refl
     last false = refl
 
     go : (b : Bool) → streamOkAt d h ≡ b
         → maybe (orElse (ofDeposit 2 (not b)) (ofDeposit 3 (hasBtf (objectOf d)))) (Opened.View (depositView h)) (λ r. Opened.Refused r)
-        ≡ answerOf (cond b (cond (someBtf d h) Checked.Btf Checked.Fine) Checked.Broken) h
+        ≡ openedBy (cond b (cond (someBtf d h) Checked.Btf Checked.Fine) Checked.Broken) h
     go true p = rw (btf d f p) (last (someBtf d h))
     go false p = refl
 

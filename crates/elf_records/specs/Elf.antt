@@ -40,8 +40,8 @@ unfoldable pub sectionOrNone : ℕ → SectionIndex
 sectionOrNone n = record { 0 = cond (eqb n 0 || leb 65280 n) noIndex n }
 
 -- 'Symbol type 2 is text and 1 is data'
-unfoldable pub kindOf : ℕ → ℕ
-kindOf info = cond (eqb (info % 16) 2) 1 (cond (eqb (info % 16) 1) 2 0)
+unfoldable pub kindOfInfo : ℕ → ℕ
+kindOfInfo info = cond (eqb (info % 16) 2) 1 (cond (eqb (info % 16) 1) 2 0)
 
 -- 'a definition has one of those types and a section'
 unfoldable pub definitionOf : ℕ → SectionIndex → ℕ
@@ -116,8 +116,8 @@ module _ (d t : List ℕ) (v : View) where
         name = symbolNameAt i;
         address = symbolAddressAt d v i;
         size = num d v (entryAt d v i + 16) 8;
-        kind = kindOf (getD d (entryAt d v i + 4) 0);
-        definition = definitionOf (kindOf (getD d (entryAt d v i + 4) 0)) (symbolSectionAt d v i);
+        kind = kindOfInfo (getD d (entryAt d v i + 4) 0);
+        definition = definitionOf (kindOfInfo (getD d (entryAt d v i + 4) 0)) (symbolSectionAt d v i);
         reserved = 0;
       }
 

@@ -4,7 +4,7 @@ ghost use Prim.Native.Nat.{_+_, _*_, _%_, _^_, _<_, _≤_};
 ghost use lib.ListN.{length, getD};
 ghost use Rattle.model.specs.Bytes.{part};
 ghost use Rattle.model.specs.LicenceVersion.{number};
-ghost use Rattle.elf_records.specs.Elf.{numberAt, num, placeOf, indexAt, markOf, dataRange, sectionOrNone, kindOf, definitionOf};
+ghost use Rattle.elf_records.specs.Elf.{numberAt, num, placeOf, indexAt, markOf, dataRange, sectionOrNone, kindOfInfo, definitionOf};
 ghost use Rattle.elf_records.specs.Elf.{symbolOrNone, targetOf, widthOf, sectionIndexAt, sectionNameAt, symbolSectionAt, symbolNameAt};
 ghost use Rattle.elf_records.specs.Elf.{symbolAddressAt, relocationOffsetAt, relocationSymbolAt, elfSection, elfSymbol, elfRelocation};
 use model::Endianness;
@@ -197,7 +197,7 @@ fn section_or_none(shndx: u32) -> SectionIndex
 }
 
 fn kind(info: u8) -> u8
-    ensures { λ r. ⌜ r ≡ kindOf info ⌝ }
+    ensures { λ r. ⌜ r ≡ kindOfInfo info ⌝ }
 {
     if info % 16 == 2 {
         return 1;

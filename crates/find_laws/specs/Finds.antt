@@ -29,7 +29,7 @@ use Rattle.guarantees.specs.SecondHalf.{accepted-is}
 use Rattle.guarantees.specs.LentBack.{Given, given-is}
 use Rattle.finish_laws.specs.Alike.{Alike, alike-finish}
 use Rattle.find_laws.specs.SearchLaws.{placeFrom, RowsRise, found-is}
-use Rattle.find_laws.specs.Rising.{rowsOf, length-rows, front-rises, functionPlace, place-is, place-none, place-some}
+use Rattle.find_laws.specs.Rising.{functionRows, length-rows, front-rises, functionPlace, place-is, place-none, place-some}
 
 load-is : (o : Object) (ps : List Patch) (on : Bool) (c : Catalogue) → load o ps on ≡ accepted c → c ≡ finish o ps on (catalogueOf o)
 unfolding load
@@ -46,17 +46,17 @@ functions-sorted o = sorted-table functionKey _
 -- the rows of functions that are ordered by their keys, and zeros behind: what is found among the first of them
 module _ (a c n : ℕ) (fs : List Function) (s : Sorted functionKey fs) (k : List ℕ) where
   abbrev table : List Row
-  table = filled zeroRow n (rowsOf a c fs)
+  table = filled zeroRow n (functionRows a c fs)
 
-  most : min (length fs) (length table) ≡ length (rowsOf a c fs)
+  most : min (length fs) (length table) ≡ length (functionRows a c fs)
   most = rw (length-append) (omega (arith, length-rows a c fs))
 
   found-there : foundIn table (length fs) k ≡ functionPlace k 0 fs
   found-there =
-      let rise : RowsRise table (min (length fs) (length table)) = rw most (front-rises a c fs (replicate (n - length (rowsOf a c fs)) zeroRow) s) in
+      let rise : RowsRise table (min (length fs) (length table)) = rw most (front-rises a c fs (replicate (n - length (functionRows a c fs)) zeroRow) s) in
       found-is table (length fs) k rise
       ∙ ap (λ (m : ℕ). placeFrom k 0 (take m table)) most
-      ∙ ap (placeFrom k 0) (take-at (rowsOf a c fs) (replicate (n - length (rowsOf a c fs)) zeroRow) (length (rowsOf a c fs)) refl)
+      ∙ ap (placeFrom k 0) (take-at (functionRows a c fs) (replicate (n - length (functionRows a c fs)) zeroRow) (length (functionRows a c fs)) refl)
       ∙ place-is k 0 a c fs
 
 module _ (d entries bytes : List ℕ) (on : Bool) (room : Room) (h : Summary) (e : loadOf d entries bytes on room .reply ≡ Answer.Accepted h) where
@@ -75,7 +75,7 @@ module _ (d entries bytes : List ℕ) (on : Bool) (room : Room) (h : Summary) (e
       (alike-finish (objectOf d) (patchesOf entries bytes) on (catalogueOf (objectOf d)))
 
   abbrev rows : List Row
-  rows = rowsOf (functionsAt loaded) (codeStart loaded) functions
+  rows = functionRows (functionsAt loaded) (codeStart loaded) functions
 
   count-is : h .functions ≡ length functions
   unfolding summaryOf

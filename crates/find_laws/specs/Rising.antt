@@ -19,28 +19,28 @@ use Rattle.guarantees.specs.TableLaws.{First, Sorted}
 use Rattle.find_laws.specs.SearchLaws.{placeFrom, RowsRise}
 
 -- the rows of functions whose first name and first code lie there
-abbrev pub rowsOf : ℕ → ℕ → List Function → List Row
-rowsOf = placed functionName functionCode functionRow
+abbrev pub functionRows : ℕ → ℕ → List Function → List Row
+functionRows = placed functionName functionCode functionRow
 
 -- a row has its function's key
 row-key : (a c : ℕ) (f : Function) → rowKey (functionRow a c f) ≡ functionKey f
 unfolding functionRow
 row-key a c f = refl
 
-pub length-rows : (a c : ℕ) (fs : List Function) → length (rowsOf a c fs) ≡ length fs
+pub length-rows : (a c : ℕ) (fs : List Function) → length (functionRows a c fs) ≡ length fs
 unfolding placed
 length-rows a c [] = refl
 length-rows a c (f ∷ fs) = ap suc (length-rows (a + length (functionName f)) (c + length (functionCode f)) fs)
 
 -- ---- order
 
-first-row : (x : Function) (a c : ℕ) (fs : List Function) → First functionKey x fs → (y : Row) → y ∈ rowsOf a c fs → before (functionKey x) (rowKey y) ≡ true
+first-row : (x : Function) (a c : ℕ) (fs : List Function) → First functionKey x fs → (y : Row) → y ∈ functionRows a c fs → before (functionKey x) (rowKey y) ≡ true
 unfolding placed
 first-row x a c [] h y m = absurd m
 first-row x a c (f ∷ fs) h y (inl q) = ap (λ (r : Row). before (functionKey x) (rowKey r)) q ∙ ap (before (functionKey x)) (row-key a c f) ∙ h f (inl refl)
 first-row x a c (f ∷ fs) h y (inr m) = first-row x (a + length (functionName f)) (c + length (functionCode f)) fs (λ g n. h g (inr n)) y m
 
-rows-sorted : (a c : ℕ) (fs : List Function) → Sorted functionKey fs → Sorted rowKey (rowsOf a c fs)
+rows-sorted : (a c : ℕ) (fs : List Function) → Sorted functionKey fs → Sorted rowKey (functionRows a c fs)
 unfolding placed
 rows-sorted a c [] s = tt
 rows-sorted a c (f ∷ fs) s = (
@@ -60,10 +60,10 @@ sorted-rise (x ∷ t) s zero (suc j) l h = s .0 (getD t j zeroRow) (getD-∈ t j
 sorted-rise (x ∷ t) s (suc i) (suc j) l h = sorted-rise t (s .1) i j (le-of-suc-le-suc l) (le-of-suc-le-suc h)
 
 -- and with more rows behind
-pub front-rises : (a c : ℕ) (fs : List Function) (more : List Row) → Sorted functionKey fs → RowsRise (rowsOf a c fs ++ more) (length (rowsOf a c fs))
+pub front-rises : (a c : ℕ) (fs : List Function) (more : List Row) → Sorted functionKey fs → RowsRise (functionRows a c fs ++ more) (length (functionRows a c fs))
 front-rises a c fs more s i j l h =
-    let g : i < length (rowsOf a c fs) = omega arith in
-    rw (List·getD-append (rowsOf a c fs) more zeroRow i g, List·getD-append (rowsOf a c fs) more zeroRow j h) (sorted-rise (rowsOf a c fs) (rows-sorted a c fs s) i j l h)
+    let g : i < length (functionRows a c fs) = omega arith in
+    rw (List·getD-append (functionRows a c fs) more zeroRow i g, List·getD-append (functionRows a c fs) more zeroRow j h) (sorted-rise (functionRows a c fs) (rows-sorted a c fs s) i j l h)
 
 -- ---- places
 
@@ -74,7 +74,7 @@ module _ (k : List ℕ) where
   functionPlace i (f ∷ fs) = cond (same (functionKey f) k) (Found.At i) (functionPlace (suc i) fs)
 
   -- that of its row
-  pub place-is : (i a c : ℕ) (fs : List Function) → placeFrom k i (rowsOf a c fs) ≡ functionPlace i fs
+  pub place-is : (i a c : ℕ) (fs : List Function) → placeFrom k i (functionRows a c fs) ≡ functionPlace i fs
   unfolding placed placeFrom functionPlace
   place-is i a c [] = refl
   place-is i a c (f ∷ fs) = rw (row-key a c f, place-is (suc i) (a + length (functionName f)) (c + length (functionCode f)) fs)
@@ -86,7 +86,7 @@ module _ (k : List ℕ) where
 
   -- a place m behind i, at a row that has the key
   abbrev Placed : ℕ → ℕ → ℕ → List Function → Found → Type 0
-  Placed a c i fs p = (m : ℕ) × (p ≡ Found.At (i + m)) × (m < length fs) × (rowKey (getD (rowsOf a c fs) m zeroRow) ≡ k)
+  Placed a c i fs p = (m : ℕ) × (p ≡ Found.At (i + m)) × (m < length fs) × (rowKey (getD (functionRows a c fs) m zeroRow) ≡ k)
 
   -- a function that has the key is found
   pub place-some : (a c i : ℕ) (fs : List Function) (f : Function) → f ∈ fs → functionKey f ≡ k → Placed a c i fs (functionPlace i fs)

@@ -20,11 +20,11 @@ use Rattle.model.specs.ReadBack.{readBack}
 use Rattle.guarantees.specs.WordsOfDemand3.{FirstHalf, after}
 use Rattle.guarantees.specs.Demand3.{demand-3-first, second-lent}
 use Rattle.guarantees.specs.ProvisosDecided.{isNamed, distinct, noneNamed, mapsFree, isFair, fair-is, allBytes, allBytes-is}
-use Rattle.guarantees.specs.ProvisosNeeded.{run}
+use Rattle.guarantees.specs.ProvisosNeeded.{computedLoad}
 
 -- every definition that a call runs through
 unfoldable pub runCall : List ℕ → List ℕ → List ℕ → Bool → Room → Outcome
-unfolding run records weigh checkOk checksOk frameOk streamIn streamOf headOf sectionRecord symbolRecord relocationRecord partsFrom partsOf endOf all allZero headOk lengthOk nameOk sectionOk symbolOk relocationOk risingFrom recordsOk streamRules streamOk relocOf sectionOf symbolKind symbolOf byteOrder statedBy objectOf hasBtf depositRefusal loadDeposit patchFrom patchesOf variantOf eight unsigned placed sectionRow programRow functionRow mapRow relocationRow bytesOf sectionsAt programsAt functionsAt codeStart mapsAt ownStart summaryOf imageOf fitsIn filledTo zeroed loadOf
+unfolding computedLoad records weigh checkOk checksOk frameOk streamIn streamOf headOf sectionRecord symbolRecord relocationRecord partsFrom partsOf endOf all allZero headOk lengthOk nameOk sectionOk symbolOk relocationOk risingFrom recordsOk streamRules streamOk relocOf sectionOf symbolKind symbolOf byteOrder statedBy objectOf hasBtf depositRefusal loadDeposit patchFrom patchesOf variantOf eight unsigned placed sectionRow programRow functionRow mapRow relocationRow bytesOf sectionsAt programsAt functionsAt codeStart mapsAt ownStart summaryOf imageOf fitsIn filledTo zeroed loadOf
 runCall d entries bytes on room = loadOf d entries bytes on room
 
 -- ---- a deposit of one block

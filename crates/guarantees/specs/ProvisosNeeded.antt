@@ -28,9 +28,9 @@ use Rattle.guarantees.specs.FirstHalf.{first-half}
 use Rattle.guarantees.specs.ProvisosDecided.{isNamed, distinct, noneNamed, mapsFree, isFair, fair-is, rising, allBytes, allData, isStated, stated-is}
 
 -- every definition that a load of an object runs through
-unfoldable pub run : Object → List Patch → Bool → Verdict
+unfoldable pub computedLoad : Object → List Patch → Bool → Verdict
 unfolding keep each firstIn find same startsWith before little littleBytes fromName orProgram kindOf readings cut fits programOf fromStr hasZero parseLicense number versionIn parseVersion signed instructionOf instructions invalidProgramCode stated statedFor rewrite put tableOf symbolsOf isProgram programSymbols definedText symbolAt stops walkOf firstNamed licenceOf versionOf sectionEntries programAt programsOf functionAt programFunction textFunction functionsOf wordsOf invalidMapDefinition recordOf legacyMap dataWords dataMap mapsOf relocationAt relocationsOf catalogueOf untargeted relocRefusal licenceRefusal versionRefusal passes programSymbolRefusal programRefusal mapSymbolRefusal mapsRefusal sharedRefusal stopRefusal textRefusal kindRefusal sectionRefusal objectRefusal bearers placeRefusal bearerRefusal entryRefusal patchRefusal refusalOf patchMap withMaps patchMaps patched rewriteFunction rewritten finish load
-run o ps on = load o ps on
+computedLoad o ps on = load o ps on
 
 abbrev pub section : ℕ → Bool → List ℕ → ℕ → List ℕ → Section
 section i text name size d = record { index = record { 0 = i }; text = text; name = name; address = 0; size = size; bytes = d; relocs = [] }
@@ -55,7 +55,7 @@ sample x =
 
 -- two objects that differ in a byte that no listed function covers
 same-catalogue : FirstHalf (sample 1) (sample 2) (catalogueOf (sample 1)) × FirstHalf (sample 2) (sample 1) (catalogueOf (sample 1))
-unfolding run sample isNamed distinct noneNamed mapsFree isFair rising allBytes allData isStated
+unfolding computedLoad sample isNamed distinct noneNamed mapsFree isFair rising allBytes allData isStated
 same-catalogue =
     first-half (sample 1) (sample 2) (catalogueOf (sample 1)) (stated-is (sample 1) refl) (stated-is (sample 2) refl) refl refl (fair-is (sample 1) refl) (fair-is (sample 2) refl)
 
@@ -69,7 +69,7 @@ patches =
     ∷ []
 
 patched-sample : load (sample 1) patches true ≡ accepted (after (sample 1) patches true (catalogueOf (sample 1)))
-unfolding run sample patches tab givenBy lastGiven mapAfter instructionAfter functionAfter after
+unfolding computedLoad sample patches tab givenBy lastGiven mapAfter instructionAfter functionAfter after
 patched-sample = refl
 
 -- the last entry that reaches gives the bytes, and the call's immediate 113 becomes 4
@@ -83,7 +83,7 @@ patched-values : (owns (catalogueOf (sample 1)) ≡ (1 ∷ 2 ∷ 3 ∷ 4 ∷ [])
     × (owns (after (sample 1) patches true (catalogueOf (sample 1))) ≡ (50 ∷ 60 ∷ 70 ∷ 80 ∷ []) ∷ [])
     × (immediates (catalogueOf (sample 1)) ≡ (pos 0 ∷ pos 0 ∷ []) ∷ (pos 113 ∷ []) ∷ [])
     × (immediates (after (sample 1) patches true (catalogueOf (sample 1))) ≡ (pos 0 ∷ pos 0 ∷ []) ∷ (pos 4 ∷ []) ∷ [])
-unfolding run sample patches tab givenBy lastGiven mapAfter instructionAfter functionAfter after
+unfolding computedLoad sample patches tab givenBy lastGiven mapAfter instructionAfter functionAfter after
 patched-values = (refl, refl, refl, refl)
 
 -- ---- each proviso is needed
@@ -113,7 +113,7 @@ names-needed : (load (nameTwice 1) [] false ≡ accepted (catalogueOf (nameTwice
     × (mapsFree (nameTwice 1) (nameTwice 1 .sections) ≡ true)
     × (mapsFree (nameTwice 2) (nameTwice 2 .sections) ≡ true)
     × (FirstHalf (nameTwice 1) (nameTwice 2) (catalogueOf (nameTwice 1)) → ⊥)
-unfolding run nameTwice isNamed noneNamed mapsFree
+unfolding computedLoad nameTwice isNamed noneNamed mapsFree
 names-needed =
     (refl, refl, refl, refl, λ h. absent [] (data1 1) (data1 2) data2 (omega arith) (omega arith) (h .whole (data1 1) (inl refl) (inr (inl refl))))
 
@@ -132,6 +132,6 @@ map-names-needed : (load (mapNamed 1) [] false ≡ accepted (catalogueOf (mapNam
     × (distinct (mapNamed 1 .sections) ≡ true)
     × (distinct (mapNamed 2 .sections) ≡ true)
     × (FirstHalf (mapNamed 1) (mapNamed 2) (catalogueOf (mapNamed 1)) → ⊥)
-unfolding run mapNamed isNamed distinct
+unfolding computedLoad mapNamed isNamed distinct
 map-names-needed =
     (refl, refl, refl, refl, λ h. absent (namesake ∷ []) (data1 1) (data1 2) maps2 (omega arith) (omega arith) (h .whole (data1 1) (inl refl) (inr (inl refl))))

@@ -365,7 +365,7 @@ relocation-back r i j = refl
 
 -- ---- where each group of pieces stands
 
-pub record Laid (c : Catalogue) (bytes : List ℕ) : Type 0 where
+pub record PiecesLaid (c : Catalogue) (bytes : List ℕ) : Type 0 where
   pub licence : take (length (c .licence)) bytes ≡ c .licence
   pub sections : Holds bytes (sectionsAt c) (each sectionName (c .sections))
   pub programs : Holds bytes (programsAt c) (each programName (c .programs))
@@ -374,7 +374,7 @@ pub record Laid (c : Catalogue) (bytes : List ℕ) : Type 0 where
   pub maps : Holds bytes (mapsAt c) (each mapName (c .maps))
   pub own : Holds bytes (ownStart c) (each mapOwn (c .maps))
 
-laid : (c : Catalogue) (bytes : List ℕ) → Holds bytes 0 (bytesOf c) → Laid c bytes
+laid : (c : Catalogue) (bytes : List ℕ) → Holds bytes 0 (bytesOf c) → PiecesLaid c bytes
 unfolding bytesOf sectionsAt programsAt functionsAt codeStart mapsAt ownStart
 laid c bytes h =
     let l = c .licence in
@@ -434,7 +434,7 @@ pub read-back : (c : Catalogue) (z : Behind) → Sound c → readBack (summaryOf
 unfolding readBack summaryOf imageOf
 read-back c z good =
     let bytes = bytesOf c ++ z .bytes in
-    let at : Laid c bytes = laid c bytes (take-append-seam (bytesOf c) (z .bytes)) in
+    let at : PiecesLaid c bytes = laid c bytes (take-append-seam (bytesOf c) (z .bytes)) in
     let ss =
     numbers-back sectionName nothing sectionRow (sectionFrom bytes) 4 section-wide (sectionsAt c) 0 (c .sections) (z .sections)
     ∙ placed-back sectionName nothing sectionRow bytes (sectionFrom bytes) (sectionsAt c) 0 (c .sections) (at .sections) (none-held bytes 0 (c .sections)) (λ x i j m h g. section-back bytes x i j h) in

@@ -18,8 +18,8 @@ use Rattle.insn.specs.declared.Next.{Next}
 use Rattle.insn.specs.declared.Next.the-variants.{Insn, End}
 
 -- the instructions of a function's bytes from a slot on
-abbrev pub left : List ℕ → ℕ → List BpfInsn
-left d slot = drop slot (instructions (length d / 8) d)
+abbrev pub instructionsFrom : List ℕ → ℕ → List BpfInsn
+instructionsFrom d slot = drop slot (instructions (length d / 8) d)
 
 abbrev pub nextOf : List BpfInsn → Next
 nextOf [] = End
@@ -42,10 +42,10 @@ unfolding instructions
 length-instructions zero d = refl
 length-instructions (suc n) d = ap suc (length-instructions n (drop 8 d))
 
-length-left : (d : List ℕ) (slot : ℕ) → length (left d slot) ≡ length d / 8 - slot
+length-left : (d : List ℕ) (slot : ℕ) → length (instructionsFrom d slot) ≡ length d / 8 - slot
 length-left d slot = length-drop slot (instructions (length d / 8) d) ∙ ap (λ (n : ℕ). n - slot) (length-instructions (length d / 8) d)
 
-pub left-some : (d : List ℕ) (slot : ℕ) → slot < length d / 8 → nextOf (left d slot) ≡ Insn (instructionOf (part d (slot * 8) 8))
+pub left-some : (d : List ℕ) (slot : ℕ) → slot < length d / 8 → nextOf (instructionsFrom d slot) ≡ Insn (instructionOf (part d (slot * 8) 8))
 unfolding instructions
 left-some d slot h =
     let m = length d / 8 - (slot + 1) in
@@ -53,19 +53,19 @@ left-some d slot h =
     ap (λ (n : ℕ). nextOf (drop slot (instructions n d))) e
     ∙ rw (instructions-split slot (suc m) d, drop-at (instructions slot d) (instructions (suc m) (drop (slot * 8) d)) slot (length-instructions slot d))
 
-pub left-none : (d : List ℕ) (slot : ℕ) → length d / 8 ≤ slot → nextOf (left d slot) ≡ End
+pub left-none : (d : List ℕ) (slot : ℕ) → length d / 8 ≤ slot → nextOf (instructionsFrom d slot) ≡ End
 left-none d slot h =
     let l : length (instructions (length d / 8) d) ≤ slot = rw length-instructions h in
     rw (drop-of-length-le (instructions (length d / 8) d) l)
 
 -- one step on
-left-more : (d : List ℕ) (slot : ℕ) → left d (slot + 1) ≡ drop 1 (left d slot)
+left-more : (d : List ℕ) (slot : ℕ) → instructionsFrom d (slot + 1) ≡ drop 1 (instructionsFrom d slot)
 left-more d slot = sym (drop-drop 1 slot (instructions (length d / 8) d))
 
 -- ---- a search for a call
 
 -- it reads on only where an instruction was read
-pub read-on : (d : List ℕ) (slot : ℕ) → passedOver (nextOf (left d slot)) ≡ true → slot < length d / 8
+pub read-on : (d : List ℕ) (slot : ℕ) → passedOver (nextOf (instructionsFrom d slot)) ≡ true → slot < length d / 8
 read-on d slot e = go (ltb slot (length d / 8)) refl
   where
     go : (b : Bool) → ltb slot (length d / 8) ≡ b → slot < length d / 8
@@ -91,11 +91,11 @@ call-later (i ∷ is) slot e = go (eqb (i .code) 0x85) e
     go false q = refl
 
 -- where a search from a slot on ends, and what it does else
-pub search-ends : (d : List ℕ) (slot : ℕ) → passedOver (nextOf (left d slot)) ≡ false → nextCall (left d slot) slot ≡ slot
-search-ends d slot e = call-met (left d slot) slot e
+pub search-ends : (d : List ℕ) (slot : ℕ) → passedOver (nextOf (instructionsFrom d slot)) ≡ false → nextCall (instructionsFrom d slot) slot ≡ slot
+search-ends d slot e = call-met (instructionsFrom d slot) slot e
 
-pub search-goes-on : (d : List ℕ) (slot : ℕ) → passedOver (nextOf (left d slot)) ≡ true → nextCall (left d slot) slot ≡ nextCall (left d (slot + 1)) (slot + 1)
-search-goes-on d slot e = call-later (left d slot) slot e ∙ ap (λ (xs : List BpfInsn). nextCall xs (slot + 1)) (sym (left-more d slot))
+pub search-goes-on : (d : List ℕ) (slot : ℕ) → passedOver (nextOf (instructionsFrom d slot)) ≡ true → nextCall (instructionsFrom d slot) slot ≡ nextCall (instructionsFrom d (slot + 1)) (slot + 1)
+search-goes-on d slot e = call-later (instructionsFrom d slot) slot e ∙ ap (λ (xs : List BpfInsn). nextCall xs (slot + 1)) (sym (left-more d slot))
 
 pub call-from : (xs : List BpfInsn) (slot : ℕ) → slot ≤ nextCall xs slot
 unfolding nextCall
@@ -115,8 +115,8 @@ call-most (i ∷ is) slot = go (nextCall is (slot + 1)) (call-most is (slot + 1)
     go n h true = omega arith
     go n h false = omega arith
 
-pub call-inside : (d : List ℕ) (slot : ℕ) → slot ≤ length d / 8 → nextCall (left d slot) slot ≤ length d / 8
-call-inside d slot h = omega (arith, call-most (left d slot) slot, length-left d slot)
+pub call-inside : (d : List ℕ) (slot : ℕ) → slot ≤ length d / 8 → nextCall (instructionsFrom d slot) slot ≤ length d / 8
+call-inside d slot h = omega (arith, call-most (instructionsFrom d slot) slot, length-left d slot)
 
 -- ---- what rewriting changes
 
@@ -129,14 +129,14 @@ no-call i e = rewrite-other i (go (eqb (i .code) 0x85) e)
 
 -- a turn of a loop over the calls: the slots that a search passes over are as rewriting leaves them
 module _ (d code : List ℕ) (h : AllBytes code) where
-  passes : (xs : List BpfInsn) (k : ℕ) → left code k ≡ xs → code ≡ slots k d ++ drop (k * 8) d → code ≡ slots (nextCall xs k) d ++ drop (nextCall xs k * 8) d
+  passes : (xs : List BpfInsn) (k : ℕ) → instructionsFrom code k ≡ xs → code ≡ slots k d ++ drop (k * 8) d → code ≡ slots (nextCall xs k) d ++ drop (nextCall xs k * 8) d
   unfolding nextCall
   passes [] k e f = f
   passes (i ∷ is) k e f = go (passes is (k + 1) (left-more code k ∙ ap (drop 1) e)) (eqb (i .code) 0x85) refl
     where
       more : eqb (i .code) 0x85 ≡ false → code ≡ slots (k + 1) d ++ drop ((k + 1) * 8) d
       more q =
-          let on : passedOver (nextOf (left code k)) ≡ true = ap (λ (xs : List BpfInsn). passedOver (nextOf xs)) e ∙ ap not q in
+          let on : passedOver (nextOf (instructionsFrom code k)) ≡ true = ap (λ (xs : List BpfInsn). passedOver (nextOf xs)) e ∙ ap not q in
           let l = read-on code k on in
           let same = no-call (instructionOf (part code (k * 8) 8)) (sym (ap passedOver (left-some code k l)) ∙ on) in
           sym (kept code (k * 8) (omega arith) h same) ∙ ap (λ (l : List ℕ). sanitizedAt l (k * 8)) f ∙ slots-more k d
@@ -146,5 +146,5 @@ module _ (d code : List ℕ) (h : AllBytes code) where
       go later true q = f
       go later false q = later (more q)
 
-  pub calls-passed : (k : ℕ) → code ≡ slots k d ++ drop (k * 8) d → code ≡ slots (nextCall (left code k) k) d ++ drop (nextCall (left code k) k * 8) d
-  calls-passed k = passes (left code k) k refl
+  pub calls-passed : (k : ℕ) → code ≡ slots k d ++ drop (k * 8) d → code ≡ slots (nextCall (instructionsFrom code k) k) d ++ drop (nextCall (instructionsFrom code k) k * 8) d
+  calls-passed k = passes (instructionsFrom code k) k refl

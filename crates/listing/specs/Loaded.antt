@@ -46,7 +46,7 @@ placed-length a b [] = refl
 placed-length a b (x ∷ xs) = ap suc (placed-length (a + length (functionName x)) (b + length (functionCode x)) xs)
 
 -- the rows and bytes that the summary counts are within the room
-pub record Within (room : Room) (h : Summary) : Type 0 where
+pub record CountsWithin (room : Room) (h : Summary) : Type 0 where
   pub programs : h .programs * 7 ≤ room .programs
   pub functions : h .functions ≤ room .functions
   pub maps : h .maps * 27 ≤ room .maps
@@ -56,7 +56,7 @@ module _ (d entries patches : List ℕ) (on : Bool) (room : Room) (h : Summary) 
   given : Given d entries patches on room h
   given = given-is d entries patches on room h accepted
 
-  pub within : Within room h
+  pub within : CountsWithin room h
   unfolding fitsIn imageOf summaryOf
   within =
       let c = given .catalogue in

@@ -10,15 +10,15 @@ use lib.ListN.{length, take, drop, length-append, length-take, length-drop, drop
 use lib.Seq.{take-all, take-nil, take-at, take-append-le, take-append-add, drop-append-add, drop-drop}
 
 -- where the text ends
-unfoldable pub endOf : ℕ → List ℕ → List ℕ → ℕ
-endOf at x t = min (at + length x) (length t)
+unfoldable pub laidEnd : ℕ → List ℕ → List ℕ → ℕ
+laidEnd at x t = min (at + length x) (length t)
 
 unfoldable pub laid : ℕ → List ℕ → List ℕ → List ℕ
 laid at x t = take at t ++ (take (length t - at) x ++ drop (at + length x) t)
 
 -- x is laid over t from `at` on: it ends at r, within u, which t then is
 pub record Laid (at : ℕ) (x t : List ℕ) (r : ℕ) (u : List ℕ) : Type 0 where
-  pub end : r ≡ endOf at x t
+  pub end : r ≡ laidEnd at x t
   pub text : u ≡ laid at x t
   pub within : r ≤ length u
 
@@ -27,8 +27,8 @@ unfolding laid
 laid-is at x t = refl
 
 module _ (at : ℕ) (x t : List ℕ) (h : at ≤ length t) where
-  pub end-within : endOf at x t ≤ length t
-  unfolding endOf
+  pub end-within : laidEnd at x t ≤ length t
+  unfolding laidEnd
   end-within = omega arith
 
   pub length-laid : length (laid at x t) ≡ length t
@@ -41,8 +41,8 @@ module _ (at : ℕ) (x t : List ℕ) (h : at ≤ length t) where
     unfolding laid
     laid-whole = let l : length x ≤ length t - at = omega arith in ap (λ (l : List ℕ). take at t ++ (l ++ drop (at + length x) t)) (take-all (length t - at) x l)
 
-    pub end-whole : endOf at x t ≡ at + length x
-    unfolding endOf
+    pub end-whole : laidEnd at x t ≡ at + length x
+    unfolding laidEnd
     end-whole = omega arith
 
     whole-front : take (at + length x) (laid at x t) ≡ take at t ++ x
@@ -65,17 +65,17 @@ module _ (at : ℕ) (x t : List ℕ) (h : at ≤ length t) where
     unfolding laid
     laid-cut = ap (λ (l : List ℕ). take at t ++ (take (length t - at) x ++ l)) (drop-of-length-le t full) ∙ ap (λ (l : List ℕ). take at t ++ l) (append-nil _)
 
-    end-cut : endOf at x t ≡ length t
-    unfolding endOf
+    end-cut : laidEnd at x t ≡ length t
+    unfolding laidEnd
     end-cut = omega arith
 
 -- y behind x
 module _ (at : ℕ) (x y t : List ℕ) (h : at ≤ length t) where
-  then-end : endOf (endOf at x t) y (laid at x t) ≡ endOf at (x ++ y) t
-  unfolding endOf
+  then-end : laidEnd (laidEnd at x t) y (laid at x t) ≡ laidEnd at (x ++ y) t
+  unfolding laidEnd
   then-end = rw (length-laid at x t h, length-append) (omega arith)
 
-  then-cut : length t ≤ at + length x → laid (endOf at x t) y (laid at x t) ≡ laid at (x ++ y) t
+  then-cut : length t ≤ at + length x → laid (laidEnd at x t) y (laid at x t) ≡ laid at (x ++ y) t
   then-cut full =
       let l : length t - at ≤ length x = omega arith in
       let k : length t ≤ at + length (x ++ y) = rw length-append (omega arith) in
@@ -88,10 +88,10 @@ module _ (at : ℕ) (x y t : List ℕ) (h : at ≤ length t) where
       ∙ rw (z, take-all (length t) (laid at x t) p, drop-of-length-le (laid at x t) q, append-nil)
       (laid-cut at x t h full ∙ sym (laid-cut at (x ++ y) t h k ∙ ap (λ (l : List ℕ). take at t ++ l) (take-append-le (length t - at) x y l)))
 
-  then-whole : at + length x ≤ length t → laid (endOf at x t) y (laid at x t) ≡ laid at (x ++ y) t
+  then-whole : at + length x ≤ length t → laid (laidEnd at x t) y (laid at x t) ≡ laid at (x ++ y) t
   then-whole fits = go (length t - at - length x) (omega arith)
     where
-      go : (m : ℕ) → length t - at ≡ length x + m → laid (endOf at x t) y (laid at x t) ≡ laid at (x ++ y) t
+      go : (m : ℕ) → length t - at ≡ length x + m → laid (laidEnd at x t) y (laid at x t) ≡ laid at (x ++ y) t
       go m b =
           let a : length (laid at x t) - (at + length x) ≡ m = omega (arith, length-laid at x t h) in
           let d : at + length (x ++ y) ≡ at + length x + length y = rw length-append (omega arith) in
@@ -100,10 +100,10 @@ module _ (at : ℕ) (x y t : List ℕ) (h : at ≤ length t) where
           ∙ rw (a, whole-front at x t h fits, whole-rest at x t h fits (length y))
           (sym (laid-is at (x ++ y) t ∙ rw (b, d, take-append-add x y m, append-assoc, append-assoc)))
 
-  then-laid : laid (endOf at x t) y (laid at x t) ≡ laid at (x ++ y) t
+  then-laid : laid (laidEnd at x t) y (laid at x t) ≡ laid at (x ++ y) t
   then-laid = go (ltb (length t) (at + length x)) refl
     where
-      go : (b : Bool) → ltb (length t) (at + length x) ≡ b → laid (endOf at x t) y (laid at x t) ≡ laid at (x ++ y) t
+      go : (b : Bool) → ltb (length t) (at + length x) ≡ b → laid (laidEnd at x t) y (laid at x t) ≡ laid at (x ++ y) t
       go true e = let g : length t < at + length x = ltb-true _ _ e in then-cut (omega arith)
       go false e = then-whole (ltb-false _ _ e)
 
@@ -121,7 +121,7 @@ module _ {at : ℕ} {x y t u : List ℕ} {r : ℕ} where
       }
 
 pub none-laid : (at : ℕ) (t : List ℕ) → at ≤ length t → Laid at [] t at t
-unfolding endOf laid
+unfolding laidEnd laid
 none-laid at t h =
     let e : at + 0 ≡ at = omega arith in
     record { end = omega arith; text = sym (rw (e, take-nil {A = ℕ} (length t - at)) (take-append-drop at t)); within = h }
@@ -163,7 +163,7 @@ module _ (at n : ℕ) (s t : List ℕ) (h : at ≤ length t) (most : n ≡ min (
 
   pub copied-laid : (ys : List ℕ) → ys ≡ take n s ++ drop (length (take n s)) (take (at + n - at) (drop at t))
       → Laid at s t (at + n) (take at t ++ (ys ++ drop (at + n - at) (drop at t)))
-  unfolding endOf
+  unfolding laidEnd
   copied-laid ys e =
       let f : at + n - at ≡ n = omega arith in
       let l : length (take n s) ≡ n = rw length-take (omega arith) in

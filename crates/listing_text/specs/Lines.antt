@@ -17,8 +17,8 @@ use Rattle.listing_text.specs.Rows.{row-at}
 use Rattle.listing_text.specs.Variants.{name-alone}
 
 -- a space and the number
-abbrev pub number : ℕ → List ℕ
-number n = 32 ∷ decimal n
+abbrev pub numberField : ℕ → List ℕ
+numberField n = 32 ∷ decimal n
 
 instructions-length : (n : ℕ) (s : List ℕ) → length (instructions n s) ≡ n
 unfolding instructions
@@ -29,7 +29,7 @@ module _ (b s : List ℕ) (p : ℕ) where
   first-at : (w : ℕ) → 0 < w → getD (part s p w) 0 0 ≡ getD s p 0
   first-at w h = row-at s p w 0 h ∙ ap (λ (k : ℕ). getD s k 0) (add-zero p)
 
-  pub program-text : (((((ascii "program " ++ part b (getD s p 0) (getD s (p + 1) 0)) ++ ascii " ") ++ variantName (programFrom (getD s (p + 2) 0) 0 0)) ++ number (getD s (p + 5) 0)) ++ number (getD s (p + 6) 0)) ++ ascii "\n"
+  pub program-text : (((((ascii "program " ++ part b (getD s p 0) (getD s (p + 1) 0)) ++ ascii " ") ++ variantName (programFrom (getD s (p + 2) 0) 0 0)) ++ numberField (getD s (p + 5) 0)) ++ numberField (getD s (p + 6) 0)) ++ ascii "\n"
       ≡ programLine (programRead b (part s p 7))
   unfolding programLine programRead line
   program-text =
@@ -37,7 +37,7 @@ module _ (b s : List ℕ) (p : ℕ) where
       rw (first-at 7 (omega arith), h 1 (omega arith), h 2 (omega arith), h 3 (omega arith), h 4 (omega arith), h 5 (omega arith), h 6 (omega arith), name-alone (getD s (p + 2) 0) (getD s (p + 3) 0) (getD s (p + 4) 0))
       (simp append-assoc)
 
-  pub function-text : (((((ascii "function" ++ number (getD s p 0)) ++ number (getD s (p + 1) 0)) ++ number (getD s (p + 6) 0 / 8)) ++ ascii " ") ++ part b (getD s (p + 3) 0) (getD s (p + 4) 0)) ++ ascii "\n"
+  pub function-text : (((((ascii "function" ++ numberField (getD s p 0)) ++ numberField (getD s (p + 1) 0)) ++ numberField (getD s (p + 6) 0 / 8)) ++ ascii " ") ++ part b (getD s (p + 3) 0) (getD s (p + 4) 0)) ++ ascii "\n"
       ≡ functionLine (functionFrom b (part s p 7))
   unfolding functionLine functionRead rowFrom line
   function-text =
@@ -45,7 +45,7 @@ module _ (b s : List ℕ) (p : ℕ) where
       rw (first-at 7 (omega arith), h 1 (omega arith), h 3 (omega arith), h 4 (omega arith), h 5 (omega arith), h 6 (omega arith), instructions-length (getD s (p + 6) 0 / 8) (part b (getD s (p + 5) 0) (getD s (p + 6) 0)))
       (simp append-assoc)
 
-  pub map-text : ((((ascii "map " ++ part b (getD s p 0) (getD s (p + 1) 0)) ++ number (getD s (p + 2) 0)) ++ number (getD s (p + 9) 0)) ++ number (length (part b (getD s (p + 5) 0) (getD s (p + 6) 0)))) ++ ascii "\n"
+  pub map-text : ((((ascii "map " ++ part b (getD s p 0) (getD s (p + 1) 0)) ++ numberField (getD s (p + 2) 0)) ++ numberField (getD s (p + 9) 0)) ++ numberField (length (part b (getD s (p + 5) 0) (getD s (p + 6) 0)))) ++ ascii "\n"
       ≡ mapLine (mapRead b (part s p 27))
   unfolding mapLine mapRead line
   map-text =
@@ -53,7 +53,7 @@ module _ (b s : List ℕ) (p : ℕ) where
       rw (first-at 27 (omega arith), h 1 (omega arith), h 2 (omega arith), h 9 (omega arith), h 5 (omega arith), h 6 (omega arith))
       (simp append-assoc)
 
-pub refusal-text : (r : Refusal) → (((ascii "refused" ++ number (r .number)) ++ number (r .section .0)) ++ number (r .symbol .0)) ++ ascii "\n" ≡ refusalText r
+pub refusal-text : (r : Refusal) → (((ascii "refused" ++ numberField (r .number)) ++ numberField (r .section .0)) ++ numberField (r .symbol .0)) ++ ascii "\n" ≡ refusalText r
 unfolding refusalText line
 refusal-text r = simp append-assoc
 

@@ -9,7 +9,7 @@ ghost use Rattle.model.specs.PatchList.{patchesOf};
 ghost use Rattle.model.specs.Patching.{load};
 ghost use Rattle.records.specs.Readable.{Readable};
 ghost use Rattle.object.specs.View.{objectIn};
-ghost use Rattle.load_object.specs.Done.{Open, symbolsOf, verdictIn, CoreDone, FrontDone};
+ghost use Rattle.load_object.specs.Done.{Open, symbolCount, verdictIn, CoreDone, FrontDone};
 use load_large::load_4096;
 use load_large::load_65536;
 use load_object::Loaded;
@@ -151,7 +151,7 @@ fn load_sized(
     )
 }
 
-// `rows` is how many rows the function table has; `order` gets the record numbers of its rows.
+// `rows` is how many rows the function table has; `symbols` gets the record numbers of its rows.
 pub fn load_core(
     d: &[u8],
     t: &[u32],
@@ -165,9 +165,9 @@ pub fn load_core(
     maps: &mut [u64],
     relocations: &mut [u64],
     bytes: &mut [u8],
-    order: &mut [u32],
+    symbols: &mut [u32],
 ) -> Loaded
-    requires { ⌜ Open (now d) (now t) opened × (symbolsOf opened ≤ length (now order)) ⌝ }
+    requires { ⌜ Open (now d) (now t) opened × (symbolCount opened ≤ length (now symbols)) ⌝ }
     ensures { λ r.
         ⌜
         CoreDone (now (d .entry)) (now (t .entry)) rows
@@ -175,7 +175,7 @@ pub fn load_core(
         (lentRoom (length (now (sections .entry))) (length (now (programs .entry))) rows (length (now (maps .entry))) (length (now (relocations .entry)))
         (length (now (bytes .entry))))
         (verdictIn (now (d .entry)) (now (t .entry)) opened (now (entries .entry)) (now (patches .entry)) rewrite))
-        r (now (sections .exit)) (now (programs .exit)) (now (maps .exit)) (now (relocations .exit)) (now (bytes .exit)) (now (order .exit))
+        r (now (sections .exit)) (now (programs .exit)) (now (maps .exit)) (now (relocations .exit)) (now (bytes .exit)) (now (symbols .exit))
         ⌝ }
 {
     match opened {
@@ -195,7 +195,7 @@ pub fn load_core(
                 maps,
                 relocations,
                 bytes,
-                &mut order[0..y],
+                &mut symbols[0..y],
                 3,
             )
         }

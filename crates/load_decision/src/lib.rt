@@ -86,7 +86,7 @@ pub fn decide_room(
     programs: &[u32],
     functions: &[u32],
     maps: &[u32],
-    order: &mut [u32],
+    numbers: &mut [u32],
     tmp: &mut [u32],
     relocations: &mut [u64],
 ) -> Decision
@@ -94,7 +94,7 @@ pub fn decide_room(
         Readable (now d) (now t) v
         × (objectRefusal (objectIn (now d) (now t) v) ≡ none)
         × Held (now d) (now t) v n (now sections) (now programs) (now functions) (now maps)
-        × (v .relocations ≤ length (now order))
+        × (v .relocations ≤ length (now numbers))
         × (v .relocations ≤ length (now tmp))
         × (room .relocations ≡ length (now relocations))
         ⌝ }
@@ -104,7 +104,7 @@ pub fn decide_room(
         × Relocated (now (d .entry)) (now (t .entry)) v r (now (relocations .entry)) (now (relocations .exit))
         ⌝ }
 {
-    let count = put_relocation_rows(d, t, v, order, tmp, relocations);
+    let count = put_relocation_rows(d, t, v, numbers, tmp, relocations);
     let places = bytes_layout::layout(d, t, v, n, sections, programs, functions, maps);
     if !fits(room, n, count, places.end) {
         return Decision::Refused(too_small());
@@ -125,7 +125,7 @@ pub fn decide_patches(
     patches: &[u8],
     maps: &[u32],
     n: usize,
-    order: &mut [u32],
+    symbols: &mut [u32],
     by: &mut [u32],
 ) -> Checked
     requires { ⌜
@@ -134,7 +134,7 @@ pub fn decide_patches(
         × (n ≤ length (now maps))
         × (n ≤ 69632)
         × (take n (now maps) ≡ mapNumbers (now d) (now t) v)
-        × (length (now order) ≡ v .symbols)
+        × (length (now symbols) ≡ v .symbols)
         × (v .symbols ≤ length (now by))
         × (v .sections ≤ length (now by))
         ⌝ }
@@ -144,7 +144,7 @@ pub fn decide_patches(
         ≡ checkedOf
         (patchRefusal (objectIn (now (d .entry)) (now (t .entry)) v) (catalogue (now (d .entry)) (now (t .entry)) v .maps) 1
         (patchesOf (now (entries .entry)) (now (patches .entry)))))
-        × Ready (now (d .entry)) (now (t .entry)) v (now (entries .entry)) (now (maps .entry)) n (now (order .exit)) (now (by .exit))
+        × Ready (now (d .entry)) (now (t .entry)) v (now (entries .entry)) (now (maps .entry)) n (now (symbols .exit)) (now (by .exit))
         ⌝ }
 {
     if entries.len() == 0 {
@@ -152,7 +152,7 @@ pub fn decide_patches(
     }
     let y = size(v.symbols);
     let longest = longest_name(entries);
-    by_name(d, t, v, longest, order, &mut by[0..y]);
+    by_name(d, t, v, longest, symbols, &mut by[0..y]);
     maps_by_section(d, t, v, maps, n, by);
-    patch_refusal(d, t, v, entries, patches, order, maps, n, by)
+    patch_refusal(d, t, v, entries, patches, symbols, maps, n, by)
 }

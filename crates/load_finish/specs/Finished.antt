@@ -30,7 +30,7 @@ use Rattle.model.specs.Patching.{patched, rewriteFunction, rewritten, finish, w
 use Rattle.insn.specs.Sanitized.{sanitized, sanitized-off}
 use Rattle.bytes_code.specs.Rewritten.{AllEncoded, rewritten-code, all-encoded}
 use Rattle.finish_laws.specs.Alike.{alike-finish, bytes-long}
-use Rattle.patch_data.specs.Patched.{patched-is}
+use Rattle.patch_data.specs.Patched.{maps-patched}
 
 -- ---- a part of a list replaced
 
@@ -95,7 +95,7 @@ maps-finished o ps false c = refl
 
 functions-patched : (o : Object) (ps : List Patch) (c : Catalogue) → patched o ps c .functions ≡ c .functions
 unfolding withMaps
-functions-patched o ps c = ap (λ (e : Catalogue). e .functions) (patched-is o ps c)
+functions-patched o ps c = ap (λ (e : Catalogue). e .functions) (maps-patched o ps c)
 
 -- rewriting is over all code at once
 code-finished : (o : Object) (ps : List Patch) (on : Bool) (c : Catalogue) → AllEncoded (c .functions) → sanitized on (code c) ≡ each functionCode (finish o ps on c .functions)

@@ -27,7 +27,7 @@ fn patch_bytes(
     v: View,
     entries: &[u64],
     patches: &[u8],
-    order: &[u32],
+    symbols: &[u32],
     by: &[u32],
     rows: &[u64],
     own: usize,
@@ -35,7 +35,7 @@ fn patch_bytes(
     out: &mut [u8],
 )
     requires { ⌜
-        (0 < length (now entries) → PatchReady (now d) (now t) v (now entries) (now order) (now by) (now rows) own)
+        (0 < length (now entries) → PatchReady (now d) (now t) v (now entries) (now symbols) (now by) (now rows) own)
         × (patchRefusal (objectIn (now d) (now t) v) (catalogue (now d) (now t) v .maps) 1 (patchesOf (now entries) (now patches)) ≡ none)
         × (own ≤ end)
         × (end ≤ length (now out))
@@ -50,7 +50,7 @@ fn patch_bytes(
         ⌝ }
 {
     if entries.len() > 0 {
-        patch_map_data(d, t, v, entries, patches, order, by, rows, own, end, out);
+        patch_map_data(d, t, v, entries, patches, symbols, by, rows, own, end, out);
     }
 }
 
@@ -74,7 +74,7 @@ pub fn finish_bytes(
     patches: &[u8],
     rewrite: bool,
     places: Places,
-    order: &[u32],
+    symbols: &[u32],
     by: &[u32],
     rows: &[u64],
     out: &mut [u8],
@@ -84,7 +84,7 @@ pub fn finish_bytes(
         × (objectRefusal (objectIn (now d) (now t) v) ≡ none)
         × (patchRefusal (objectIn (now d) (now t) v) (catalogue (now d) (now t) v .maps) 1 (patchesOf (now entries) (now patches)) ≡ none)
         × At (catalogue (now d) (now t) v) places
-        × (0 < length (now entries) → PatchReady (now d) (now t) v (now entries) (now order) (now by) (now rows) (places .own))
+        × (0 < length (now entries) → PatchReady (now d) (now t) v (now entries) (now symbols) (now by) (now rows) (places .own))
         × (now out ≡ filled 0 (length (now out)) (bytesOf (catalogue (now d) (now t) v)))
         ⌝ }
     ensures { λ r.
@@ -101,7 +101,7 @@ pub fn finish_bytes(
         v,
         entries,
         patches,
-        order,
+        symbols,
         by,
         rows,
         places.own,

@@ -30,7 +30,7 @@ use Rattle.model.specs.declared.Answer.{Answer}
 use Rattle.model.specs.declared.Function.{Function}
 use Rattle.model.specs.Lent.{lentRoom, outcomeIn}
 use Rattle.object_view.specs.declared.Opened.{Opened}
-use Rattle.load_object.specs.Done.{Open, symbolsOf, verdictIn}
+use Rattle.load_object.specs.Done.{Open, symbolCount, verdictIn}
 use Rattle.load_functions.specs.Loads.{Loads}
 use Rattle.model.proofs.Function as T
 use Rattle.model.proofs.Answer as F
@@ -40,7 +40,7 @@ use Rattle.load_functions.proofs.load_64 as load′
 
 -- what was opened can be read, and has at most B symbols
 abbrev pub AtMost : ℕ → List ℕ → List ℕ → Opened → Type 0
-AtMost B d t o = Open d t o × (symbolsOf o ≤ B)
+AtMost B d t o = Open d t o × (symbolCount o ≤ B)
 
 -- each has the signature of `load_64`
 abbrev pub stayed : Stays (load′.ended .signature .params) (load′.ended .kept)

@@ -44,7 +44,7 @@ use Rattle.object_view.specs.declared.Opened.{Opened}
 use Rattle.rows_functions.specs.declared.Rows.{Rows}
 use Rattle.rows_functions.specs.Rows.{ReadableRows, rowsMade}
 use Rattle.load_object.specs.declared.Loaded.{Loaded}
-use Rattle.load_object.specs.Done.{Open, symbolsOf, verdictIn, CoreDone}
+use Rattle.load_object.specs.Done.{Open, symbolCount, verdictIn, CoreDone}
 use Rattle.load_functions.specs.Loads.{Loads}
 use Rattle.load_functions.proofs.Again.{LentAgain, lends-again, comes-back}
 use Rattle.load_functions.specs.Shared.{shares-all}
@@ -157,7 +157,7 @@ module _ {M : Type 1} (𝓤 : URA M) (H : Heap 𝓤) (A : Atoms 𝓤) (mem : Mem
 
 module _ {M : Type 1} (𝓤 : URA M) (H : Heap 𝓤) (A : Atoms 𝓤) (W : Given 𝓤 H A) (mem : Memory → SProp 𝓤) (run : Routine → Fun 𝓤) (N : ℕ) (N-room : Room u32 N) (len : Operand) (says-N : Const 𝓤 H len N)
     (κ₁ κ₂ κ₄ κ₅ κ₇ κ₈ κ₉ κ₁₀ κ₁₁ κ₁₂ : Lft) (q₁ q₂ q₄ q₅ q₇ q₈ q₉ q₁₀ q₁₁ q₁₂ : Share) (x₁ : RefT (List ℕ)) (x₂ : RefT (List ℕ)) (opened : Opened) (v₃ : Val) (x₄ : RefT (List ℕ)) (x₅ : RefT (List ℕ)) (on : Bool) (x₇ : RefT (List ℕ)) (x₈ : RefT (List ℕ)) (x₉ : RefT (List Function)) (x₁₀ : RefT (List ℕ)) (x₁₁ : RefT (List ℕ)) (x₁₂ : RefT (List ℕ))
-    (g₁ : Room u8 (length (x₁ .now))) (g₂ : Room u32 (length (x₂ .now))) (g₃ : Is O.the-row opened (v₃ ∷ [])) (g₄ : Room u64 (length (x₄ .now))) (g₅ : Room u8 (length (x₅ .now))) (g₇ : Room u64 (length (x₇ .now))) (g₈ : Room u64 (length (x₈ .now))) (g₉ : Room T.the-row (length (x₉ .now))) (g₁₀ : Room u64 (length (x₁₀ .now))) (g₁₁ : Room u64 (length (x₁₁ .now))) (g₁₂ : Room u8 (length (x₁₂ .now))) (opens : Open (x₁ .now) (x₂ .now) opened) (fits : symbolsOf opened ≤ N) where
+    (g₁ : Room u8 (length (x₁ .now))) (g₂ : Room u32 (length (x₂ .now))) (g₃ : Is O.the-row opened (v₃ ∷ [])) (g₄ : Room u64 (length (x₄ .now))) (g₅ : Room u8 (length (x₅ .now))) (g₇ : Room u64 (length (x₇ .now))) (g₈ : Room u64 (length (x₈ .now))) (g₉ : Room T.the-row (length (x₉ .now))) (g₁₀ : Room u64 (length (x₁₀ .now))) (g₁₁ : Room u64 (length (x₁₁ .now))) (g₁₂ : Room u8 (length (x₁₂ .now))) (opens : Open (x₁ .now) (x₂ .now) opened) (fits : symbolCount opened ≤ N) where
   abbrev n : ℕ
   n = length (x₉ .now)
 
@@ -233,7 +233,7 @@ module _ {M : Type 1} (𝓤 : URA M) (H : Heap 𝓤) (A : Atoms 𝓤) (W : Given
   to-core l μ ε = ((core-κs μ, (q₁, (q₂, (q₄, (q₅, (q₇, (q₈, (q₁₀, (q₁₁, (q₁₂, (fullShare, tt)))))))))), tt, core-args l ε, core-vals l), tt)
 
   goes-core : (l μ : ℕ) (ε : GName) → ent 𝓤 (⋆ 𝓤 H A (CToks μ ∷ ‵ (owns (ShrSlice (named 0) κ₁ u8 ∷ ShrSlice (named 1) κ₂ u32 ∷ O.the-row ∷ ShrSlice (named 2) κ₄ u64 ∷ ShrSlice (named 3) κ₅ u8 ∷ Boolean ∷ usize ∷ MutSlice (named 4) κ₇ u64 ∷ MutSlice (named 5) κ₈ u64 ∷ MutSlice (named 6) κ₁₀ u64 ∷ MutSlice (named 7) κ₁₁ u64 ∷ MutSlice (named 8) κ₁₂ u8 ∷ MutSlice (named 9) (μ ∷ []) u32 ∷ []) (core-args l ε) (core-vals l)) ∷ [])) (Core 𝓤 H A mem run .pre (to-core l μ ε))
-  goes-core l μ ε = qed W (CToks μ ∷ ‵ (owns (ShrSlice (named 0) κ₁ u8 ∷ ShrSlice (named 1) κ₂ u32 ∷ O.the-row ∷ ShrSlice (named 2) κ₄ u64 ∷ ShrSlice (named 3) κ₅ u8 ∷ Boolean ∷ usize ∷ MutSlice (named 4) κ₇ u64 ∷ MutSlice (named 5) κ₈ u64 ∷ MutSlice (named 6) κ₁₀ u64 ∷ MutSlice (named 7) κ₁₁ u64 ∷ MutSlice (named 8) κ₁₂ u8 ∷ MutSlice (named 9) (μ ∷ []) u32 ∷ []) (core-args l ε) (core-vals l)) ∷ []) ∵ says ! (opens, subst (λ (m : ℕ). symbolsOf opened ≤ m) (sym (length-zeros N)) fits) $ done !
+  goes-core l μ ε = qed W (CToks μ ∷ ‵ (owns (ShrSlice (named 0) κ₁ u8 ∷ ShrSlice (named 1) κ₂ u32 ∷ O.the-row ∷ ShrSlice (named 2) κ₄ u64 ∷ ShrSlice (named 3) κ₅ u8 ∷ Boolean ∷ usize ∷ MutSlice (named 4) κ₇ u64 ∷ MutSlice (named 5) κ₈ u64 ∷ MutSlice (named 6) κ₁₀ u64 ∷ MutSlice (named 7) κ₁₁ u64 ∷ MutSlice (named 8) κ₁₂ u8 ∷ MutSlice (named 9) (μ ∷ []) u32 ∷ []) (core-args l ε) (core-vals l)) ∷ []) ∵ says ! (opens, subst (λ (m : ℕ). symbolCount opened ≤ m) (sym (length-zeros N)) fits) $ done !
 
   abbrev FToks : ℕ → Item 𝓤
   FToks ν = ‵ (flft κ₉ q₉) ⊛ ‵ (flft κ₁ q₁) ⊛ ‵ (flft κ₂ q₂) ⊛ ‵ (flft (ν ∷ []) fullShare) ⊛ ‵ ftrue
@@ -378,7 +378,7 @@ module _ {M : Type 1} (𝓤 : URA M) (H : Heap 𝓤) (A : Atoms 𝓤) (W : Given
 
 -- what is asked has the array large enough
 pub sized : {M : Type 1} (𝓤 : URA M) (H : Heap 𝓤) (A : Atoms 𝓤) (W : Given 𝓤 H A) (mem : Memory → SProp 𝓤) (run : Routine → Fun 𝓤) (N : ℕ) → Room u32 N → (len : Operand) → Const 𝓤 H len N
-    → (Asks : List ℕ → List ℕ → Opened → Type 0) → ((d t : List ℕ) (o : Opened) → Asks d t o → Open d t o × (symbolsOf o ≤ N))
+    → (Asks : List ℕ → List ℕ → Opened → Type 0) → ((d t : List ℕ) (o : Opened) → Asks d t o → Open d t o × (symbolCount o ≤ N))
     → (𝓣 : Tables 𝓤 H) → Triple 𝓤 (𝓣 .C #load-core) (Core 𝓤 H A mem run) → Triple 𝓤 (𝓣 .C #fill) (Fill 𝓤 H A mem run)
     → Meets 𝓤 H A load′.signature (WpFn 𝓤 H (𝓣 .C) (𝓣 .Λ) (function N len)) (closing 𝓤 H A load′.ended (outer.clausesOf 𝓤 H A W Asks))
 sized 𝓤 H A W mem run N room len says-N Asks enough 𝓣 known-core known-fill =

@@ -3,7 +3,7 @@
 ghost use mathlib.Core.Path.{_≡_};
 ghost use Prim.Native.Nat.{_≤_};
 ghost use Rattle.model.specs.Lent.{lent, roomIn, outcome, outcomeIn};
-ghost use Rattle.load_object.specs.Done.{Open, symbolsOf, verdictIn};
+ghost use Rattle.load_object.specs.Done.{Open, symbolCount, verdictIn};
 use load_core::load_core;
 use model::Answer;
 use model::Function;
@@ -25,7 +25,7 @@ pub fn load_64(
     relocations: &mut [u64],
     bytes: &mut [u8],
 ) -> Answer
-    requires { ⌜ Open (now d) (now t) opened × (symbolsOf opened ≤ 64) ⌝ }
+    requires { ⌜ Open (now d) (now t) opened × (symbolCount opened ≤ 64) ⌝ }
     ensures { λ r.
         ⌜
         outcome r (lent (now (sections .exit)) (now (programs .exit)) (now (functions .exit)) (now (maps .exit)) (now (relocations .exit)) (now (bytes .exit)))
@@ -35,7 +35,7 @@ pub fn load_64(
         ⌝ }
 {
     let room = functions.len();
-    let mut order = [0u32; 64];
+    let mut symbols = [0u32; 64];
     let loaded = load_core(
         d,
         t,
@@ -49,9 +49,9 @@ pub fn load_64(
         maps,
         relocations,
         bytes,
-        &mut order,
+        &mut symbols,
     );
-    fill(functions, d, t, &order, loaded.rows);
+    fill(functions, d, t, &symbols, loaded.rows);
     loaded.answer
 }
 
@@ -70,7 +70,7 @@ pub fn load_2048(
     relocations: &mut [u64],
     bytes: &mut [u8],
 ) -> Answer
-    requires { ⌜ Open (now d) (now t) opened × (symbolsOf opened ≤ 2048) ⌝ }
+    requires { ⌜ Open (now d) (now t) opened × (symbolCount opened ≤ 2048) ⌝ }
     ensures { λ r.
         ⌜
         outcome r (lent (now (sections .exit)) (now (programs .exit)) (now (functions .exit)) (now (maps .exit)) (now (relocations .exit)) (now (bytes .exit)))
@@ -80,7 +80,7 @@ pub fn load_2048(
         ⌝ }
 {
     let room = functions.len();
-    let mut order = [0u32; 2048];
+    let mut symbols = [0u32; 2048];
     let loaded = load_core(
         d,
         t,
@@ -94,9 +94,9 @@ pub fn load_2048(
         maps,
         relocations,
         bytes,
-        &mut order,
+        &mut symbols,
     );
-    fill(functions, d, t, &order, loaded.rows);
+    fill(functions, d, t, &symbols, loaded.rows);
     loaded.answer
 }
 
@@ -125,7 +125,7 @@ pub fn load_65536(
         ⌝ }
 {
     let room = functions.len();
-    let mut order = [0u32; 65536];
+    let mut symbols = [0u32; 65536];
     let loaded = load_core(
         d,
         t,
@@ -139,8 +139,8 @@ pub fn load_65536(
         maps,
         relocations,
         bytes,
-        &mut order,
+        &mut symbols,
     );
-    fill(functions, d, t, &order, loaded.rows);
+    fill(functions, d, t, &symbols, loaded.rows);
     loaded.answer
 }

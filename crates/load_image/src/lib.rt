@@ -32,21 +32,21 @@ pub fn fill_sections(
     d: &[u8],
     t: &[u32],
     v: View,
-    order: &[u32],
+    numbers: &[u32],
     n: usize,
     places: Places,
     out: &mut [u64],
 )
     requires { ⌜
-        (n ≤ length (now order))
+        (n ≤ length (now numbers))
         × (n ≤ 69632)
-        × (take n (now order) ≡ sectionNumbers (now d) (now t) v)
+        × (take n (now numbers) ≡ sectionNumbers (now d) (now t) v)
         × At (catalogue (now d) (now t) v) places
         × (n * 4 ≤ length (now out))
         ⌝ }
     ensures { λ r. ⌜ now (out .exit) ≡ filled 0 (length (now (out .entry))) (imageOf (catalogue (now (d .entry)) (now (t .entry)) v) .sections) ⌝ }
 {
-    put_section_rows(d, t, v, order, n, places.sections, out);
+    put_section_rows(d, t, v, numbers, n, places.sections, out);
     clear_from(out, n * 4);
 }
 
@@ -54,7 +54,7 @@ pub fn fill_programs(
     d: &[u8],
     t: &[u32],
     v: View,
-    order: &[u32],
+    numbers: &[u32],
     n: usize,
     places: Places,
     out: &mut [u64],
@@ -62,15 +62,15 @@ pub fn fill_programs(
     requires { ⌜
         Readable (now d) (now t) v
         × (objectRefusal (objectIn (now d) (now t) v) ≡ none)
-        × (n ≤ length (now order))
+        × (n ≤ length (now numbers))
         × (n ≤ 69632)
-        × (take n (now order) ≡ programNumbers (now d) (now t) v)
+        × (take n (now numbers) ≡ programNumbers (now d) (now t) v)
         × At (catalogue (now d) (now t) v) places
         × (n * 7 ≤ length (now out))
         ⌝ }
     ensures { λ r. ⌜ now (out .exit) ≡ filled 0 (length (now (out .entry))) (imageOf (catalogue (now (d .entry)) (now (t .entry)) v) .programs) ⌝ }
 {
-    put_program_rows(d, t, v, order, n, places.programs, out);
+    put_program_rows(d, t, v, numbers, n, places.programs, out);
     clear_from(out, n * 7);
 }
 
@@ -78,7 +78,7 @@ pub fn fill_maps(
     d: &[u8],
     t: &[u32],
     v: View,
-    order: &[u32],
+    numbers: &[u32],
     n: usize,
     places: Places,
     out: &mut [u64],
@@ -86,15 +86,15 @@ pub fn fill_maps(
     requires { ⌜
         Readable (now d) (now t) v
         × (objectRefusal (objectIn (now d) (now t) v) ≡ none)
-        × (n ≤ length (now order))
+        × (n ≤ length (now numbers))
         × (n ≤ 69632)
-        × (take n (now order) ≡ mapNumbers (now d) (now t) v)
+        × (take n (now numbers) ≡ mapNumbers (now d) (now t) v)
         × At (catalogue (now d) (now t) v) places
         × (n * 27 ≤ length (now out))
         ⌝ }
     ensures { λ r. ⌜ now (out .exit) ≡ filled 0 (length (now (out .entry))) (imageOf (catalogue (now (d .entry)) (now (t .entry)) v) .maps) ⌝ }
 {
-    put_map_rows(d, t, v, order, n, places.maps, places.own, out);
+    put_map_rows(d, t, v, numbers, n, places.maps, places.own, out);
     clear_from(out, n * 27);
 }
 

@@ -11,14 +11,14 @@ use Rattle.model.specs.FunctionNumbers.{flatRows, flat, flatOf}
 use Rattle.model.specs.Lent.{lent, filled, outcome, outcomeIn, loadOf}
 use Rattle.object_view.specs.declared.Opened.{Opened}
 use Rattle.deposit.specs.Open.{openedOf}
-use Rattle.load_object.specs.Done.{Open, symbolsOf, few-symbols, verdictIn}
+use Rattle.load_object.specs.Done.{Open, symbolCount, few-symbols, verdictIn}
 use Rattle.load_core.specs.Core.{open-deposit, deposit-outcome}
 
 module _ (d t : List ℕ) (o : Opened) (e : o ≡ openedOf d) where
   opens : Open d t o
   opens = rw e (open-deposit d t)
 
-  pub opens-few : (order : List ℕ) → length order ≡ 65536 → Open d t o × (symbolsOf o ≤ length order)
+  pub opens-few : (order : List ℕ) → length order ≡ 65536 → Open d t o × (symbolCount o ≤ length order)
   opens-few order l = (opens, rw l (few-symbols d t o opens))
 
   -- by what the core and the loop of the rows leave

@@ -33,7 +33,7 @@ pub fn load_flat(
     let t = [0u32; 0];
     let room = functions.len() / 7;
     // No deposit has more symbols.
-    let mut order = [0u32; 65536];
+    let mut symbols = [0u32; 65536];
     let loaded = load_core(
         d,
         &t,
@@ -47,9 +47,9 @@ pub fn load_flat(
         maps,
         relocations,
         bytes,
-        &mut order,
+        &mut symbols,
     );
     let rows = loaded.rows;
-    fill_rows(functions, d, &t, &order, rows);
+    fill_rows(functions, d, &t, &symbols, rows);
     loaded.answer
 }

@@ -22,7 +22,7 @@ use Rattle.object_view.specs.declared.Form.{Form}
 use Rattle.object_view.specs.declared.View.{View}
 use Rattle.catalogue_numbers.specs.Numbers.{functionAt, functions-by, sectionNumbers, programNumbers, functionNumbers, mapNumbers}
 use Rattle.records.specs.Readable.{Readable}
-use Rattle.bytes_layout.specs.Held.{Held, inside}
+use Rattle.bytes_layout.specs.Held.{Held, parts-inside}
 use Rattle.bytes_layout.specs.Parts.{catalogue}
 use Rattle.load_image.specs.Tables.{long-relocations, count-sections, count-programs, count-functions, count-maps, rows-of-maps}
 use Rattle.parse_sections.specs.declared.Counts.{Counts}
@@ -234,7 +234,7 @@ module _ (d t : List ℕ) (v : View) (room : Room) (plan : Plan) (s p f m : List
       let c = catalogue d t v in
       let n = plan .counts .functions in
       let e = functions-are rest in
-      let i = inside c in
+      let i = parts-inside c in
       let w = g .held .functions-in in
       let long : n ≤ length (f ++ rest) = rw length-append (omega arith) in
       let cf = count-functions d t v n f w readable (g .ok) (g .held .functions) in

@@ -18,11 +18,11 @@ abbrev pub Open : List ℕ → List ℕ → Opened → Type 0
 Open d t (Opened.Refused q) = Unit {0}
 Open d t (Opened.View v) = Readable d t v
 
-abbrev pub symbolsOf : Opened → ℕ
-symbolsOf (Opened.Refused q) = 0
-symbolsOf (Opened.View v) = v .symbols
+abbrev pub symbolCount : Opened → ℕ
+symbolCount (Opened.Refused q) = 0
+symbolCount (Opened.View v) = v .symbols
 
-pub few-symbols : (d t : List ℕ) (o : Opened) → Open d t o → symbolsOf o ≤ 65536
+pub few-symbols : (d t : List ℕ) (o : Opened) → Open d t o → symbolCount o ≤ 65536
 few-symbols d t (Opened.Refused q) r = omega arith
 few-symbols d t (Opened.View v) r = r .few-symbols
 

@@ -138,7 +138,7 @@ fn fill_and_finish(
     p: &[u32],
     f: &[u32],
     m: &[u32],
-    order: &[u32],
+    symbols: &[u32],
     by: &[u32],
     sections: &mut [u64],
     programs: &mut [u64],
@@ -149,7 +149,7 @@ fn fill_and_finish(
     requires { ⌜
         Fillable (now d) (now t) v plan (now s) (now p) (now f) (now m) (now sections) (now programs) (now maps) (now relocations) (now bytes)
         × (patchRefusal (objectIn (now d) (now t) v) (catalogue (now d) (now t) v .maps) 1 (patchesOf (now entries) (now patches)) ≡ none)
-        × Ready (now d) (now t) v (now entries) (now m) (plan .counts .maps) (now order) (now by)
+        × Ready (now d) (now t) v (now entries) (now m) (plan .counts .maps) (now symbols) (now by)
         ⌝ }
     ensures { λ l.
         ⌜
@@ -187,7 +187,7 @@ fn fill_and_finish(
         patches,
         rewrite,
         plan.places,
-        order,
+        symbols,
         by,
         maps,
         bytes,

@@ -35,7 +35,7 @@ use denote.Exit.{yes}
 use Rattle.model.specs.declared.Answer.{Answer}
 use Rattle.model.specs.declared.Function.{Function}
 use Rattle.object_view.specs.declared.Opened.{Opened}
-use Rattle.load_object.specs.Done.{Open, symbolsOf}
+use Rattle.load_object.specs.Done.{Open, symbolCount}
 use Rattle.load_functions.proofs.Outer as outer
 use Rattle.load_functions.proofs.Outer.{AtMost}
 use Rattle.load_opened.proofs.OuterMore as outer-more
@@ -142,7 +142,7 @@ most-of y n m e yes = leb→le n m (subst T e yes)
 module _ {M : Type 1} (𝓤 : URA M) where
   -- what the test says, which has the signature of `is_small`
   abbrev pub testOf : ℕ → Clauses 𝓤 small.ended
-  testOf B κs a = record { ghost = Unit {0}; requires = λ _. emp 𝓤; ensures = λ _ r end. fact 𝓤 (r ≡ leb (symbolsOf (a .0)) B) }
+  testOf B κs a = record { ghost = Unit {0}; requires = λ _. emp 𝓤; ensures = λ _ r end. fact 𝓤 (r ≡ leb (symbolCount (a .0)) B) }
 
 module _ {M : Type 1} (𝓤 : URA M) (H : Heap 𝓤) (A : Atoms 𝓤) (W : Given 𝓤 H A) where
   -- the contracts that the proof cites
@@ -203,7 +203,7 @@ module _ {M : Type 1} (𝓤 : URA M) (H : Heap 𝓤) (A : Atoms 𝓤) (W : Given
   abbrev to-two : Two .Ghost
   to-two = (((κ₁, (κ₂, (κ₄, (κ₅, (κ₇, (κ₈, (κ₉, (κ₁₀, (κ₁₁, (κ₁₂, tt)))))))))), (q₁, (q₂, (q₄, (q₅, (q₇, (q₈, (q₉, (q₁₀, (q₁₁, (q₁₂, tt)))))))))), tt, (2, (x₁, (x₂, (opened, (x₄, (x₅, (on, (x₇, (x₈, (x₉, (x₁₀, (x₁₁, (x₁₂, tt))))))))))))), (uint-vals w32 2, (slice-vals x₁, (slice-vals x₂, (v₃ ∷ [], (slice-vals x₄, (slice-vals x₅, (bool-vals on, (slice-vals x₇, (slice-vals x₈, (slice-vals x₉, (slice-vals x₁₀, (slice-vals x₁₁, (slice-vals x₁₂, tt)))))))))))))), tt)
 
-  goes-one : symbolsOf opened ≤ B → ent 𝓤 (⋆ 𝓤 H A (Toks ∷ Owned ∷ [])) (One .pre at)
+  goes-one : symbolCount opened ≤ B → ent 𝓤 (⋆ 𝓤 H A (Toks ∷ Owned ∷ [])) (One .pre at)
   goes-one few = qed W (Toks ∷ Owned ∷ []) ∵ says ! (opens, few) $ done !
 
   goes-two : ent 𝓤 (⋆ 𝓤 H A (Toks ∷ Owned ∷ [])) (Two .pre to-two)
@@ -228,8 +228,8 @@ module _ {M : Type 1} (𝓤 : URA M) (H : Heap 𝓤) (A : Atoms 𝓤) (W : Given
         -- the test is asked
         use0 W (raw (Test .pre to-test)) goes-test $ calls-at ! fm Test known-test to-test (and-then ! (load ! (from ! (stop !)) (look ! 71 refl)) (no-more !)) (λ v.
         use1 W (later (some (λ (y : Bool). (‵ ftrue ⊛ ‵ (Boolean .own y (v ∷ []))) ⊛ raw (ensured 𝓤 H A small.ended (testOf 𝓤 B) tt (opened, tt) tt y)))) (id⊢ 𝓤 _) $ await ! tt $
-        pick ! (λ y. split ! $ move ! (1 ∷ []) $ use1 W (some (λ (zs : Unit {0} × Unit {0}). ‵ (lasts small.ended tt (opened, tt) zs) ⊛ raw (fact 𝓤 (y ≡ leb (symbolsOf opened) B)))) (id⊢ 𝓤 _) $
-        pick ! (λ zs. split ! $ drop ! $ heard ! (y ≡ leb (symbolsOf opened) B) (λ e.
+        pick ! (λ y. split ! $ move ! (1 ∷ []) $ use1 W (some (λ (zs : Unit {0} × Unit {0}). ‵ (lasts small.ended tt (opened, tt) zs) ⊛ raw (fact 𝓤 (y ≡ leb (symbolCount opened) B)))) (id⊢ 𝓤 _) $
+        pick ! (λ zs. split ! $ drop ! $ heard ! (y ≡ leb (symbolCount opened) B) (λ e.
         split ! $ drop ! $ peeks ! Boolean (Is Boolean) (shows 𝓤 H A Boolean) y (v ∷ []) (λ is. land ! (from ! (stop !)) (init ! 51 refl (bool-lawful 𝓤 H A W .typed y _ is .0)) $
         rewrite ! 51 (λ (u : Val). ‵ (fat fullShare tyBool l₁₃ 0 u)) (ap only is) refl $
         drop ! $ move ! (78 ∷ 79 ∷ []) $
@@ -247,7 +247,7 @@ module _ {M : Type 1} (𝓤 : URA M) (H : Heap 𝓤) (A : Atoms 𝓤) (W : Given
         assigns ! (agg ! (and-then ! (load ! (from ! (stop !)) (look ! 32 refl)) (and-then ! (load ! (from ! (fld ! refl (stop !))) (look-in ! 56 (sub ! 1 refl (whole !)))) (no-more !)))) (from ! (stop !)) (init ! 30 refl (tt, (tt, (record { fits = g₁₁ .0 }, tt)))) $
         assigns ! (addr ! (from ! (fld ! refl (hop ! (look-in ! 54 (sub ! 0 refl (whole !))) (stop !))))) (from ! (stop !)) (init ! 28 refl (tt, tt)) $
         assigns ! (agg ! (and-then ! (load ! (from ! (stop !)) (look ! 28 refl)) (and-then ! (load ! (from ! (fld ! refl (stop !))) (look-in ! 54 (sub ! 1 refl (whole !)))) (no-more !)))) (from ! (stop !)) (init ! 26 refl (tt, (tt, (record { fits = g₁₂ .0 }, tt)))) $
-        use2 W (raw (One .pre at)) (goes-one (most-of y (symbolsOf opened) B e yes)) $ calls-at-last ! fm One known-one at (and-then ! (load ! (from ! (stop !)) (look ! 75 refl)) (and-then ! (load ! (from ! (stop !)) (look ! 73 refl)) (and-then ! (load ! (from ! (stop !)) (look ! 71 refl)) (and-then ! (load ! (from ! (stop !)) (look ! 69 refl)) (and-then ! (load ! (from ! (stop !)) (look ! 67 refl)) (and-then ! (load ! (from ! (stop !)) (look ! 65 refl)) (and-then ! (load ! (from ! (stop !)) (look ! 45 refl)) (and-then ! (load ! (from ! (stop !)) (look ! 41 refl)) (and-then ! (load ! (from ! (stop !)) (look ! 37 refl)) (and-then ! (load ! (from ! (stop !)) (look ! 33 refl)) (and-then ! (load ! (from ! (stop !)) (look ! 29 refl)) (and-then ! (load ! (from ! (stop !)) (look ! 25 refl)) (no-more !))))))))))))) (λ w.
+        use2 W (raw (One .pre at)) (goes-one (most-of y (symbolCount opened) B e yes)) $ calls-at-last ! fm One known-one at (and-then ! (load ! (from ! (stop !)) (look ! 75 refl)) (and-then ! (load ! (from ! (stop !)) (look ! 73 refl)) (and-then ! (load ! (from ! (stop !)) (look ! 71 refl)) (and-then ! (load ! (from ! (stop !)) (look ! 69 refl)) (and-then ! (load ! (from ! (stop !)) (look ! 67 refl)) (and-then ! (load ! (from ! (stop !)) (look ! 65 refl)) (and-then ! (load ! (from ! (stop !)) (look ! 45 refl)) (and-then ! (load ! (from ! (stop !)) (look ! 41 refl)) (and-then ! (load ! (from ! (stop !)) (look ! 37 refl)) (and-then ! (load ! (from ! (stop !)) (look ! 33 refl)) (and-then ! (load ! (from ! (stop !)) (look ! 29 refl)) (and-then ! (load ! (from ! (stop !)) (look ! 25 refl)) (no-more !))))))))))))) (λ w.
         use1 W (later (some (λ (r : Answer). (Toks ⊛ ‵ (F.the-row .own r (w ∷ []))) ⊛ raw (ensured 𝓤 H A load′.ended (outer.clausesOf 𝓤 H A W (AtMost B)) (κ₁, (κ₂, (κ₄, (κ₅, (κ₇, (κ₈, (κ₉, (κ₁₀, (κ₁₁, (κ₁₂, tt)))))))))) (x₁, (x₂, (opened, (x₄, (x₅, (on, (x₇, (x₈, (x₉, (x₁₀, (x₁₁, (x₁₂, tt)))))))))))) tt r)))) (id⊢ 𝓤 _) $
         await ! tt $ pick ! (λ r. split ! $ move ! (1 ∷ []) $ use1 W (some (λ (zs : Lasts). ‵ (lasts load′.ended (κ₁, (κ₂, (κ₄, (κ₅, (κ₇, (κ₈, (κ₉, (κ₁₀, (κ₁₁, (κ₁₂, tt)))))))))) (x₁, (x₂, (opened, (x₄, (x₅, (on, (x₇, (x₈, (x₉, (x₁₀, (x₁₁, (x₁₂, tt)))))))))))) zs) ⊛ raw (fact 𝓤 (Facts r (zs .1 .1 .1 .1 .1 .1 .0) (zs .1 .1 .1 .1 .1 .1 .1 .0) (zs .1 .1 .1 .1 .1 .1 .1 .1 .0) (zs .1 .1 .1 .1 .1 .1 .1 .1 .1 .0) (zs .1 .1 .1 .1 .1 .1 .1 .1 .1 .1 .0) (zs .1 .1 .1 .1 .1 .1 .1 .1 .1 .1 .1 .0))))) (id⊢ 𝓤 _) $
         pick ! (λ zs. split ! $ move ! (1 ∷ []) $ heard ! (Facts r (zs .1 .1 .1 .1 .1 .1 .0) (zs .1 .1 .1 .1 .1 .1 .1 .0) (zs .1 .1 .1 .1 .1 .1 .1 .1 .0) (zs .1 .1 .1 .1 .1 .1 .1 .1 .1 .0) (zs .1 .1 .1 .1 .1 .1 .1 .1 .1 .1 .0) (zs .1 .1 .1 .1 .1 .1 .1 .1 .1 .1 .1 .0)) (λ f.

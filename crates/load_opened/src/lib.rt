@@ -2,7 +2,7 @@
 ghost use mathlib.Core.Path.{_≡_};
 ghost use lib.Dec.{leb};
 ghost use Rattle.model.specs.Lent.{lent, roomIn, outcome, outcomeIn};
-ghost use Rattle.load_object.specs.Done.{Open, symbolsOf, verdictIn};
+ghost use Rattle.load_object.specs.Done.{Open, symbolCount, verdictIn};
 use load_functions::load_64;
 use load_functions::load_2048;
 use load_functions::load_65536;
@@ -11,7 +11,7 @@ use model::Function;
 use object_view::Opened;
 
 fn is_small(opened: Opened) -> bool
-    ensures { λ r. ⌜ r ≡ leb (symbolsOf opened) 64 ⌝ }
+    ensures { λ r. ⌜ r ≡ leb (symbolCount opened) 64 ⌝ }
 {
     match opened {
         Opened::Refused(_) => true,
@@ -20,7 +20,7 @@ fn is_small(opened: Opened) -> bool
 }
 
 fn is_medium(opened: Opened) -> bool
-    ensures { λ r. ⌜ r ≡ leb (symbolsOf opened) 2048 ⌝ }
+    ensures { λ r. ⌜ r ≡ leb (symbolCount opened) 2048 ⌝ }
 {
     match opened {
         Opened::Refused(_) => true,

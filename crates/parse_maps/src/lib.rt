@@ -44,22 +44,22 @@ pub fn map_symbols(
     t: &[u32],
     v: View,
     s: SectionRecord,
-    order: &[u32],
+    symbols: &[u32],
     lo: usize,
     hi: usize,
 ) -> Checked
-    requires { ⌜ hi ≤ length (now order) ⌝ }
+    requires { ⌜ hi ≤ length (now symbols) ⌝ }
     ensures { λ r.
         ⌜
         r
         ≡ checkedOf
         (firstIn (mapSymbolRefusal (sectionFrom (now (d .entry)) (now (t .entry)) v s))
-        (map (symbolIn (now (d .entry)) (now (t .entry)) v) (slice lo hi (now (order .entry)))))
+        (map (symbolIn (now (d .entry)) (now (t .entry)) v) (slice lo hi (now (symbols .entry)))))
         ⌝ }
 {
     let mut i = lo;
     while i < hi {
-        let y = records::symbol(d, t, v, order[i]);
+        let y = records::symbol(d, t, v, symbols[i]);
         let fault = map_fault(d, v, s, y);
         if fault != 0 {
             return object::of_symbol(fault, s, y);
@@ -75,43 +75,43 @@ pub fn parse_maps_section(
     t: &[u32],
     v: View,
     s: SectionRecord,
-    order: &[u32],
+    symbols: &[u32],
     lo: usize,
     hi: usize,
 ) -> Checked
-    requires { ⌜ (hi ≤ length (now order)) × (slice lo hi (now order) ≡ membersIn (now d) (now t) v s) ⌝ }
+    requires { ⌜ (hi ≤ length (now symbols)) × (slice lo hi (now symbols) ≡ membersIn (now d) (now t) v s) ⌝ }
     ensures { λ r. ⌜ r ≡ checkedOf (mapsRefusal (objectIn (now (d .entry)) (now (t .entry)) v) (sectionFrom (now (d .entry)) (now (t .entry)) v s)) ⌝ }
 {
     if hi <= lo {
         object::of_section(9, s)
     } else {
-        map_symbols(d, t, v, s, order, lo, hi)
+        map_symbols(d, t, v, s, symbols, lo, hi)
     }
 }
 
 // Appends the numbers of the maps that a group's symbols are to the first w of out.
 pub fn map_numbers(
     sections: u32,
-    order: &[u32],
+    symbols: &[u32],
     lo: usize,
     hi: usize,
     out: &mut [u32],
     w: usize,
 ) -> usize
     requires { ⌜
-        (lo ≤ hi) × (hi ≤ length (now order)) × (w + (hi - lo) ≤ length (now out))
-        × ((k : ℕ) → lo ≤ k → k < hi → sections + getD (now order) k 0 < 2 ^ 32)
+        (lo ≤ hi) × (hi ≤ length (now symbols)) × (w + (hi - lo) ≤ length (now out))
+        × ((k : ℕ) → lo ≤ k → k < hi → sections + getD (now symbols) k 0 < 2 ^ 32)
         ⌝ }
     ensures { λ r.
         ⌜
-        (r ≡ w + length (mapNumbers sections (slice lo hi (now (order .entry)))))
-        × (now (out .exit) ≡ take w (now (out .entry)) ++ (mapNumbers sections (slice lo hi (now (order .entry))) ++ drop r (now (out .entry))))
+        (r ≡ w + length (mapNumbers sections (slice lo hi (now (symbols .entry)))))
+        × (now (out .exit) ≡ take w (now (out .entry)) ++ (mapNumbers sections (slice lo hi (now (symbols .entry))) ++ drop r (now (out .entry))))
         ⌝ }
 {
     let mut n = w;
     let mut i = lo;
     while i < hi {
-        let j = order[i];
+        let j = symbols[i];
         out[n] = map_number(sections, MapSource::Symbol(j));
         n += 1;
         i += 1;

@@ -46,22 +46,22 @@ pub fn program_symbols(
     t: &[u32],
     v: View,
     s: SectionRecord,
-    order: &[u32],
+    symbols: &[u32],
     lo: usize,
     hi: usize,
 ) -> Checked
-    requires { ⌜ (hi ≤ length (now order)) ⌝ }
+    requires { ⌜ (hi ≤ length (now symbols)) ⌝ }
     ensures { λ r.
         ⌜
         r
         ≡ checkedOf
         (firstIn (programSymbolRefusal (sectionFrom (now (d .entry)) (now (t .entry)) v s))
-        (map (symbolIn (now (d .entry)) (now (t .entry)) v) (programsAmong (now (d .entry)) (now (t .entry)) v (slice lo hi (now (order .entry))))))
+        (map (symbolIn (now (d .entry)) (now (t .entry)) v) (programsAmong (now (d .entry)) (now (t .entry)) v (slice lo hi (now (symbols .entry))))))
         ⌝ }
 {
     let mut i = lo;
     while i < hi {
-        let y = records::symbol(d, t, v, order[i]);
+        let y = records::symbol(d, t, v, symbols[i]);
         if object::is_program(y) {
             let fault = parse_program(s, y);
             if fault != 0 {
@@ -79,11 +79,11 @@ pub fn program_refusal(
     t: &[u32],
     v: View,
     s: SectionRecord,
-    order: &[u32],
+    symbols: &[u32],
     lo: usize,
     hi: usize,
 ) -> Checked
-    requires { ⌜ (hi ≤ length (now order)) × (slice lo hi (now order) ≡ membersIn (now d) (now t) v s) ⌝ }
+    requires { ⌜ (hi ≤ length (now symbols)) × (slice lo hi (now symbols) ≡ membersIn (now d) (now t) v s) ⌝ }
     ensures { λ r.
         ⌜
         r ≡ checkedOf (programRefusal (objectIn (now (d .entry)) (now (t .entry)) v) (sectionFrom (now (d .entry)) (now (t .entry)) v s))
@@ -98,7 +98,7 @@ pub fn program_refusal(
             if hi <= lo {
                 object::of_section(9, s)
             } else {
-                program_symbols(d, t, v, s, order, lo, hi)
+                program_symbols(d, t, v, s, symbols, lo, hi)
             }
         }
     }
@@ -109,24 +109,24 @@ pub fn program_numbers(
     d: &[u8],
     t: &[u32],
     v: View,
-    order: &[u32],
+    symbols: &[u32],
     lo: usize,
     hi: usize,
     out: &mut [u32],
     w: usize,
 ) -> usize
-    requires { ⌜ (lo ≤ hi) × (hi ≤ length (now order)) × (w + (hi - lo) ≤ length (now out)) ⌝ }
+    requires { ⌜ (lo ≤ hi) × (hi ≤ length (now symbols)) × (w + (hi - lo) ≤ length (now out)) ⌝ }
     ensures { λ r.
         ⌜
-        (r ≡ w + length (programsAmong (now (d .entry)) (now (t .entry)) v (slice lo hi (now (order .entry)))))
+        (r ≡ w + length (programsAmong (now (d .entry)) (now (t .entry)) v (slice lo hi (now (symbols .entry)))))
         × (now (out .exit)
-        ≡ take w (now (out .entry)) ++ (programsAmong (now (d .entry)) (now (t .entry)) v (slice lo hi (now (order .entry))) ++ drop r (now (out .entry))))
+        ≡ take w (now (out .entry)) ++ (programsAmong (now (d .entry)) (now (t .entry)) v (slice lo hi (now (symbols .entry))) ++ drop r (now (out .entry))))
         ⌝ }
 {
     let mut n = w;
     let mut i = lo;
     while i < hi {
-        let j = order[i];
+        let j = symbols[i];
         if object::is_program(records::symbol(d, t, v, j)) {
             out[n] = j;
             n += 1;

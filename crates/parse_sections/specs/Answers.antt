@@ -27,17 +27,17 @@ use Rattle.object.specs.View.{sectionFrom, sectionIn, symbolIn, objectIn}
 use Rattle.catalogue_numbers.specs.Numbers.{functionsFrom}
 use Rattle.parse_text.specs.declared.ParsedText.{ParsedText}
 use Rattle.parse_text.specs.Parsed as text
-use Rattle.parse_text.specs.Parsed.{refusal, parsedText, laid, numbers-of-walk}
+use Rattle.parse_text.specs.Parsed.{refusal, parsedText, numbersLaid, numbers-of-walk}
 
 -- a check's answer, of a section whose functions end at n
-abbrev pub answerOf : Checked → ℕ → ParsedText
-answerOf Checked.Fine n = ParsedText.Functions n
-answerOf (Checked.Refused r) n = ParsedText.Refused r
+abbrev pub checkedText : Checked → ℕ → ParsedText
+checkedText Checked.Fine n = ParsedText.Functions n
+checkedText (Checked.Refused r) n = ParsedText.Refused r
 
 -- the answer for a refusal or none, and the numbers that are laid into out₀ from place w on where there is none
 pub record Answers (q : Option Refusal) (ns out₀ : List ℕ) (w : ℕ) (r : ParsedText) (out : List ℕ) : Type 0 where
   pub answer : r ≡ parsedText q (w + length ns)
-  pub listed : q ≡ none → out ≡ laid out₀ w ns
+  pub listed : q ≡ none → out ≡ numbersLaid out₀ w ns
 
 pub answers-refused : (q : Option Refusal) (x : Refusal) (ns out₀ out : List ℕ) (w : ℕ) → q ≡ some x → Answers q ns out₀ w (ParsedText.Refused x) out
 answers-refused q x ns out₀ out w e = record { answer = rw e; listed = λ f. not-some x (sym e ∙ f) }
@@ -47,7 +47,7 @@ pub answers-fine : (q : Option Refusal) (ns out₀ out : List ℕ) (w n : ℕ) �
 answers-fine q ns out₀ out w n e c f = record { answer = rw (e, c); listed = λ z. f ∙ rw c }
 
 -- a section without functions
-pub answers-none : (q : Option Refusal) (out₀ : List ℕ) (w : ℕ) → Answers q [] out₀ w (answerOf (checkedOf q) w) out₀
+pub answers-none : (q : Option Refusal) (out₀ : List ℕ) (w : ℕ) → Answers q [] out₀ w (checkedText (checkedOf q) w) out₀
 answers-none none out₀ w = record { answer = rw add-zero; listed = λ z. rw add-zero (sym (take-append-drop w out₀)) }
 answers-none (some x) out₀ w = record { answer = refl; listed = λ z. not-some x z }
 
@@ -69,7 +69,7 @@ module _ (d t : List ℕ) (v : View) (s : SectionRecord) where
       (cond (isKind Kind.Text (kindOf sec)) walkedIn [])
 
   pub answers-text : (out₀ : List ℕ) (w : ℕ) (r : ParsedText) (out : List ℕ) → text.Parsed d t v s out₀ w r out → Answers (textRefusal o sec) walkedIn out₀ w r out
-  answers-text out₀ w r out p = record { answer = go (textRefusal o sec) refl; listed = λ e. p .numbers ∙ ap (laid out₀ w) (numbers-of-walk d t v s e) }
+  answers-text out₀ w r out p = record { answer = go (textRefusal o sec) refl; listed = λ e. p .numbers ∙ ap (numbersLaid out₀ w) (numbers-of-walk d t v s e) }
     where
       go : (q : Option Refusal) → textRefusal o sec ≡ q → r ≡ parsedText q (w + length walkedIn)
       go none e = p .answer ∙ rw (e, numbers-of-walk d t v s e)
@@ -92,7 +92,7 @@ module _ (d t : List ℕ) (v : View) (s : SectionRecord) where
     section-kind e u a = rw (e, u) a
 
   module _ (out₀ : List ℕ) (w : ℕ) where
-    pub kind-maps : kindOf sec ≡ Kind.Maps → Answers (kindRefusal o sec) functionsBy out₀ w (answerOf (checkedOf (mapsRefusal o sec)) w) out₀
+    pub kind-maps : kindOf sec ≡ Kind.Maps → Answers (kindRefusal o sec) functionsBy out₀ w (checkedText (checkedOf (mapsRefusal o sec)) w) out₀
     unfolding kindRefusal functionsBy
     kind-maps e = rw e (answers-none (mapsRefusal o sec) out₀ w)
 

@@ -6,7 +6,7 @@ use native.Mathlib.Omega.{arith}
 use lib.ListN.{length, take, drop, length-append, length-take, length-drop, take-append-drop}
 use lib.Seq.{slice, length-front, length-take-le, take-take, take-at, drop-at, drop-drop, take-append-le}
 use Rattle.lists.specs.Tab.{rows, rows-none, rows-more}
-use Rattle.catalogue_laws.specs.Groups.{Laid}
+use Rattle.catalogue_laws.specs.Groups.{LaidFrom}
 
 -- cs are the first n of a list
 pub record Candidates (cs : List ℕ) (n : ℕ) (out : List ℕ) : Type 0 where
@@ -33,7 +33,7 @@ candidates-past c k rest h = candidates-back (candidates-lent c k h) rest
 
 module _ (f : ℕ → List ℕ) (i : ℕ) {n : ℕ} {out : List ℕ} (c : Candidates (rows f i) n out) where
   -- one section more
-  pub candidates-next : (xs out₂ : List ℕ) (m : ℕ) → f i ≡ xs → Laid n m xs out out₂ → Candidates (rows f (i + 1)) m out₂
+  pub candidates-next : (xs out₂ : List ℕ) (m : ℕ) → f i ≡ xs → LaidFrom n m xs out out₂ → Candidates (rows f (i + 1)) m out₂
   candidates-next xs out₂ m e l =
       let more : rows f (i + 1) ≡ rows f i ++ xs = rows-more f i ∙ rw e in
       let len : length (rows f i ++ xs) ≡ m = rw (length-append, ← c .count) (sym (l .count)) in
@@ -45,7 +45,7 @@ module _ (f : ℕ → List ℕ) (i : ℕ) {n : ℕ} {out : List ℕ} (c : Candid
   candidates-own out₂ m b = ap (drop n) (b .front ∙ rows-more f i) ∙ drop-at (rows f i) (f i) n (sym (c .count))
 
 -- numbers copied into a part that is lent, from `at` to e
-pub copied : (at e : ℕ) (xs out out₂ : List ℕ) → e ≡ at + length xs → out₂ ≡ take at out ++ (xs ++ drop (e - at) (drop at out)) → Laid at e xs out out₂
+pub copied : (at e : ℕ) (xs out out₂ : List ℕ) → e ≡ at + length xs → out₂ ≡ take at out ++ (xs ++ drop (e - at) (drop at out)) → LaidFrom at e xs out out₂
 copied at e xs out out₂ h q = let z : at + (e - at) ≡ e = omega arith in record { count = h; held = q ∙ rw (drop-drop (e - at) at out, z) }
 
 -- how long a part is that is lent, from a to e
@@ -53,5 +53,5 @@ pub part-length : (a e n : ℕ) (l : List ℕ) → e ≡ a + n → e ≤ length 
 part-length a e n l h k = let z : e - a ≡ n = omega arith in rw z (length-take-le n (drop a l) (rw length-drop (omega arith)))
 
 -- a list as long as it was, where a part of n from a on comes back
-pub part-back : (a n : ℕ) (l x : List ℕ) → length x ≡ length (take n (drop a l)) → length (take a l ++ (x ++ drop n (drop a l))) ≡ length l
-part-back a n l x h = rw (length-append, length-front (drop a l) x n h, ← length-append (take a l) (drop a l)) (ap length (take-append-drop a l))
+pub length-part-back : (a n : ℕ) (l x : List ℕ) → length x ≡ length (take n (drop a l)) → length (take a l ++ (x ++ drop n (drop a l))) ≡ length l
+length-part-back a n l x h = rw (length-append, length-front (drop a l) x n h, ← length-append (take a l) (drop a l)) (ap length (take-append-drop a l))

@@ -10,7 +10,7 @@ use Rattle.model.specs.Contents.{isData}
 use Rattle.model.specs.SectionKind.{isKind, kindOf}
 use Rattle.object_view.specs.declared.View.{View}
 use Rattle.catalogue_laws.specs.FunctionsMaps.{functionsIn, mapsIn}
-use Rattle.catalogue_laws.specs.Groups.{Laid}
+use Rattle.catalogue_laws.specs.Groups.{LaidFrom}
 use Rattle.catalogue_laws.specs.SectionsPrograms.{sectionsIn, programsIn}
 use Rattle.records.specs.declared.MapSource.{MapSource}
 use Rattle.records.specs.View.{sectionAt}
@@ -25,12 +25,12 @@ unfoldable pub sectionsOf : Kind → ℕ → List ℕ
 sectionsOf k i = cond (isKind Kind.BtfExt k) [] (i ∷ [])
 
 -- the programs are its functions
-unfoldable pub programsOf : Kind → List ℕ → List ℕ
-programsOf k fs = cond (isKind Kind.Program k) fs []
+unfoldable pub programNumbersOf : Kind → List ℕ → List ℕ
+programNumbersOf k fs = cond (isKind Kind.Program k) fs []
 
 -- the maps, where its symbols are js
-unfoldable pub mapsOf : ℕ → Kind → ℕ → List ℕ → List ℕ
-mapsOf count k i js =
+unfoldable pub mapNumbersOf : ℕ → Kind → ℕ → List ℕ → List ℕ
+mapNumbersOf count k i js =
     cond (isKind Kind.Maps k) (map (λ j. mapNumberOf count (MapSource.Symbol j)) js) (cond (isData k) (mapNumberOf count (MapSource.Section i) ∷ []) [])
 
 pub few-sections : (k : Kind) (i : ℕ) → length (sectionsOf k i) ≤ 1
@@ -41,16 +41,16 @@ few-sections k i = go (isKind Kind.BtfExt k)
     go true = omega arith
     go false = omega arith
 
-pub few-programs : (k : Kind) (fs : List ℕ) → length (programsOf k fs) ≤ length fs
-unfolding programsOf
+pub few-programs : (k : Kind) (fs : List ℕ) → length (programNumbersOf k fs) ≤ length fs
+unfolding programNumbersOf
 few-programs k fs = go (isKind Kind.Program k)
   where
     go : (b : Bool) → length (cond b fs []) ≤ length fs
     go true = omega arith
     go false = omega arith
 
-pub few-maps : (count : ℕ) (k : Kind) (i : ℕ) (js : List ℕ) → length (mapsOf count k i js) ≤ 1 + length js
-unfolding mapsOf
+pub few-maps : (count : ℕ) (k : Kind) (i : ℕ) (js : List ℕ) → length (mapNumbersOf count k i js) ≤ 1 + length js
+unfolding mapNumbersOf
 few-maps count k i js = go (isKind Kind.Maps k) (isData k)
   where
     go : (b c : Bool) → length (cond b (map (λ j. mapNumberOf count (MapSource.Symbol j)) js) (cond c (mapNumberOf count (MapSource.Section i) ∷ []) [])) ≤ 1 + length js
@@ -67,16 +67,16 @@ module _ (d t : List ℕ) (v : View) (i : ℕ) where
   unfolding sectionsIn sectionsOf
   sections-by = refl
 
-  pub programs-by : programsFrom d t v i ≡ programsOf kind (functionsFrom d t v i)
-  unfolding programsIn functionsIn programsOf
+  pub programs-by : programsFrom d t v i ≡ programNumbersOf kind (functionsFrom d t v i)
+  unfolding programsIn functionsIn programNumbersOf
   programs-by = go _ _ (isKind Kind.Program kind)
     where
       go : (ps fs : List ℕ) (b : Bool) → cond b ps [] ≡ cond b (cond b ps fs) []
       go ps fs true = refl
       go ps fs false = refl
 
-  pub maps-by : mapsFrom d t v i ≡ mapsOf (v .sections) kind i (membersIn d t v (sectionAt d t v i))
-  unfolding mapsIn mapsOf
+  pub maps-by : mapsFrom d t v i ≡ mapNumbersOf (v .sections) kind i (membersIn d t v (sectionAt d t v i))
+  unfolding mapsIn mapNumbersOf
   maps-by = refl
 
 -- ---- the lists that it is appended to
@@ -94,9 +94,9 @@ pub record RoomFor (count : ℕ) (order : List ℕ) (lo hi : ℕ) (sections prog
 
 -- js are its symbols and fs its functions, which end at m; r numbers stand in each list then, and licence and version stay
 pub record Lists (count : ℕ) (k : Kind) (i : ℕ) (js fs : List ℕ) (n : Counts) (m : ℕ) (r : Counts) (s p o s₂ p₂ o₂ : List ℕ) : Type 0 where
-  pub of-sections : Laid (n .sections) (r .sections) (sectionsOf k i) s s₂
-  pub of-programs : Laid (n .programs) (r .programs) (programsOf k fs) p p₂
+  pub of-sections : LaidFrom (n .sections) (r .sections) (sectionsOf k i) s s₂
+  pub of-programs : LaidFrom (n .programs) (r .programs) (programNumbersOf k fs) p p₂
   pub of-functions : r .functions ≡ m
-  pub of-maps : Laid (n .maps) (r .maps) (mapsOf count k i js) o o₂
+  pub of-maps : LaidFrom (n .maps) (r .maps) (mapNumbersOf count k i js) o o₂
   pub of-license : r .license ≡ n .license
   pub of-version : r .version ≡ n .version

@@ -8,7 +8,7 @@ ghost use Rattle.model.specs.Contents.{versionOf};
 ghost use Rattle.model.specs.Refusals.{programRefusal, textRefusal, kindRefusal, sectionRefusal, objectRefusal};
 ghost use Rattle.model.specs.SectionKind.{isKind, kindOf};
 ghost use Rattle.orders.specs.Sort.{byKey, sorted};
-ghost use Rattle.catalogue_laws.specs.Groups.{Laid};
+ghost use Rattle.catalogue_laws.specs.Groups.{LaidFrom};
 ghost use Rattle.catalogue_laws.specs.Numbers.{upTo};
 ghost use Rattle.catalogue_laws.specs.SortedGroups.{bySection};
 ghost use Rattle.records.specs.Readable.{Readable};
@@ -19,8 +19,8 @@ ghost use Rattle.object.specs.View.{sectionFrom, symbolIn, objectIn};
 ghost use Rattle.parse_first.specs.LicenceVersion.{licenseAt};
 ghost use Rattle.parse_first.specs.Targets.{NextOf};
 ghost use Rattle.parse_sections.specs.Grouped.{Passed, GroupOf};
-ghost use Rattle.parse_sections.specs.Answers.{answerOf, Answers, walkedIn, functionsBy};
-ghost use Rattle.parse_sections.specs.Lists.{sectionsOf, programsOf, mapsOf, RoomFor, Lists};
+ghost use Rattle.parse_sections.specs.Answers.{checkedText, Answers, walkedIn, functionsBy};
+ghost use Rattle.parse_sections.specs.Lists.{sectionsOf, programNumbersOf, mapNumbersOf, RoomFor, Lists};
 ghost use Rattle.parse_sections.specs.Pass.{Listed, sectionsRefused};
 use model::EbpfSectionKind;
 use model::KernelVersion;
@@ -60,25 +60,25 @@ struct Group {
 }
 
 // The group of a section; those of the sections before it end at `from`.
-fn group_of(d: &[u8], t: &[u32], v: View, s: SectionRecord, order: &[u32], from: usize) -> Group
+fn group_of(d: &[u8], t: &[u32], v: View, s: SectionRecord, symbols: &[u32], from: usize) -> Group
     requires { ⌜
-        (from ≤ length (now order)) × (now order ≡ sorted (bySection (symbolIn (now d) (now t) v)) (upTo (v .symbols)))
-        × Passed (now d) (now t) v (now order) from (s .index .0)
+        (from ≤ length (now symbols)) × (now symbols ≡ sorted (bySection (symbolIn (now d) (now t) v)) (upTo (v .symbols)))
+        × Passed (now d) (now t) v (now symbols) from (s .index .0)
         ⌝ }
-    ensures { λ r. ⌜ GroupOf (now (d .entry)) (now (t .entry)) v s (now (order .entry)) from (r .lo) (r .hi) ⌝ }
+    ensures { λ r. ⌜ GroupOf (now (d .entry)) (now (t .entry)) v s (now (symbols .entry)) from (r .lo) (r .hi) ⌝ }
 {
     let k = s.index;
-    let lo = symbol_groups::group_start(d, t, v, order, from, k);
+    let lo = symbol_groups::group_start(d, t, v, symbols, from, k);
     if is_no_section(k) {
         return Group { lo: lo, hi: lo };
     }
-    let hi = symbol_groups::group_end(d, t, v, order, lo, k);
+    let hi = symbol_groups::group_end(d, t, v, symbols, lo, k);
     Group { lo: lo, hi: hi }
 }
 
 // A check's answer, of a section whose functions end at n.
 fn answer(c: Checked, n: usize) -> ParsedText
-    ensures { λ r. ⌜ r ≡ answerOf c n ⌝ }
+    ensures { λ r. ⌜ r ≡ checkedText c n ⌝ }
 {
     match c {
         Checked::Fine => ParsedText::Functions(n),
@@ -91,14 +91,14 @@ fn parse_programs(
     t: &[u32],
     v: View,
     s: SectionRecord,
-    order: &[u32],
+    symbols: &[u32],
     lo: usize,
     hi: usize,
     functions: &mut [u32],
     w: usize,
 ) -> ParsedText
     requires { ⌜
-        (lo ≤ hi) × (hi ≤ length (now order)) × (w + (hi - lo) ≤ length (now functions)) × (slice lo hi (now order) ≡ membersIn (now d) (now t) v s)
+        (lo ≤ hi) × (hi ≤ length (now symbols)) × (w + (hi - lo) ≤ length (now functions)) × (slice lo hi (now symbols) ≡ membersIn (now d) (now t) v s)
         ⌝ }
     ensures { λ r.
         ⌜
@@ -107,14 +107,14 @@ fn parse_programs(
         (now (functions .exit))
         ⌝ }
 {
-    match parse_programs::program_refusal(d, t, v, s, order, lo, hi) {
+    match parse_programs::program_refusal(d, t, v, s, symbols, lo, hi) {
         Checked::Refused(r) => ParsedText::Refused(r),
         Checked::Fine => {
             ParsedText::Functions(parse_programs::program_numbers(
                 d,
                 t,
                 v,
-                order,
+                symbols,
                 lo,
                 hi,
                 functions,
@@ -129,19 +129,19 @@ fn by_address(
     d: &[u8],
     t: &[u32],
     v: View,
-    order: &[u32],
+    symbols: &[u32],
     lo: usize,
     hi: usize,
     group: &mut [u32],
     tmp: &mut [u32],
 )
-    requires { ⌜ (lo ≤ hi) × (hi ≤ length (now order)) × (length (now group) ≡ hi - lo) × (length (now tmp) ≡ hi - lo) ⌝ }
+    requires { ⌜ (lo ≤ hi) × (hi ≤ length (now symbols)) × (length (now group) ≡ hi - lo) × (length (now tmp) ≡ hi - lo) ⌝ }
     ensures { λ r.
         ⌜
-        now (group .exit) ≡ sorted (byKey (keyOf By.SymbolAddress (now (d .entry)) (now (t .entry)) v)) (slice lo hi (now (order .entry)))
+        now (group .exit) ≡ sorted (byKey (keyOf By.SymbolAddress (now (d .entry)) (now (t .entry)) v)) (slice lo hi (now (symbols .entry)))
         ⌝ }
 {
-    record_sort::copy(group, &order[lo..hi]);
+    record_sort::copy(group, &symbols[lo..hi]);
     record_sort::sort(d, t, v, By::SymbolAddress, group, tmp);
 }
 
@@ -150,7 +150,7 @@ fn parse_text_section(
     t: &[u32],
     v: View,
     s: SectionRecord,
-    order: &[u32],
+    symbols: &[u32],
     lo: usize,
     hi: usize,
     group: &mut [u32],
@@ -159,7 +159,7 @@ fn parse_text_section(
     w: usize,
 ) -> ParsedText
     requires { ⌜
-        (lo ≤ hi) × (hi ≤ length (now order)) × (w + (hi - lo) ≤ length (now functions)) × (slice lo hi (now order) ≡ membersIn (now d) (now t) v s)
+        (lo ≤ hi) × (hi ≤ length (now symbols)) × (w + (hi - lo) ≤ length (now functions)) × (slice lo hi (now symbols) ≡ membersIn (now d) (now t) v s)
         × (length (now group) ≡ hi - lo) × (length (now tmp) ≡ hi - lo)
         ⌝ }
     ensures { λ r.
@@ -169,7 +169,7 @@ fn parse_text_section(
         ⌝ }
 {
     let n = hi - lo;
-    by_address(d, t, v, order, lo, hi, group, tmp);
+    by_address(d, t, v, symbols, lo, hi, group, tmp);
     parse_text::parse_text_section(d, t, v, s, group, 0, n, functions, w)
 }
 
@@ -180,7 +180,7 @@ fn parse_kind(
     v: View,
     s: SectionRecord,
     kind: EbpfSectionKind,
-    order: &[u32],
+    symbols: &[u32],
     lo: usize,
     hi: usize,
     group: &mut [u32],
@@ -189,7 +189,7 @@ fn parse_kind(
     w: usize,
 ) -> ParsedText
     requires { ⌜
-        (lo ≤ hi) × (hi ≤ length (now order)) × (w + (hi - lo) ≤ length (now functions)) × (slice lo hi (now order) ≡ membersIn (now d) (now t) v s)
+        (lo ≤ hi) × (hi ≤ length (now symbols)) × (w + (hi - lo) ≤ length (now functions)) × (slice lo hi (now symbols) ≡ membersIn (now d) (now t) v s)
         × (length (now group) ≡ hi - lo) × (length (now tmp) ≡ hi - lo) × (kind ≡ kindOf (sectionFrom (now d) (now t) v s))
         ⌝ }
     ensures { λ r.
@@ -199,12 +199,15 @@ fn parse_kind(
         ⌝ }
 {
     match kind {
-        EbpfSectionKind::Program => { parse_programs(d, t, v, s, order, lo, hi, functions, w) }
+        EbpfSectionKind::Program => { parse_programs(d, t, v, s, symbols, lo, hi, functions, w) }
         EbpfSectionKind::Maps => {
-            answer(parse_maps::parse_maps_section(d, t, v, s, order, lo, hi), w)
+            answer(
+                parse_maps::parse_maps_section(d, t, v, s, symbols, lo, hi),
+                w,
+            )
         }
         EbpfSectionKind::Text => {
-            parse_text_section(d, t, v, s, order, lo, hi, group, tmp, functions, w)
+            parse_text_section(d, t, v, s, symbols, lo, hi, group, tmp, functions, w)
         }
         EbpfSectionKind::BtfMaps => answer(object::of_section(17, s), w),
         _ => ParsedText::Functions(w),
@@ -227,7 +230,7 @@ fn parse_section(
     s: SectionRecord,
     kind: EbpfSectionKind,
     next: &[u32],
-    order: &[u32],
+    symbols: &[u32],
     lo: usize,
     hi: usize,
     group: &mut [u32],
@@ -236,7 +239,7 @@ fn parse_section(
     w: usize,
 ) -> ParsedText
     requires { ⌜
-        (lo ≤ hi) × (hi ≤ length (now order)) × (w + (hi - lo) ≤ length (now functions)) × (slice lo hi (now order) ≡ membersIn (now d) (now t) v s)
+        (lo ≤ hi) × (hi ≤ length (now symbols)) × (w + (hi - lo) ≤ length (now functions)) × (slice lo hi (now symbols) ≡ membersIn (now d) (now t) v s)
         × (length (now group) ≡ hi - lo) × (length (now tmp) ≡ hi - lo) × (kind ≡ kindOf (sectionFrom (now d) (now t) v s))
         × NextOf (now d) (now t) v (now next) × (s .relocations .at + s .relocations .length ≤ v .relocations)
         ⌝ }
@@ -252,13 +255,13 @@ fn parse_section(
     if parse_first::untargeted(s, next) {
         return answer(object::of_section(4, s), w);
     }
-    parse_kind(d, t, v, s, kind, order, lo, hi, group, tmp, functions, w)
+    parse_kind(d, t, v, s, kind, symbols, lo, hi, group, tmp, functions, w)
 }
 
 // Appends a section's own number to the first w of out, unless it is `.BTF.ext`.
 fn list_section(kind: EbpfSectionKind, i: u32, out: &mut [u32], w: usize) -> usize
     requires { ⌜ w < length (now out) ⌝ }
-    ensures { λ r. ⌜ Laid w r (sectionsOf kind i) (now (out .entry)) (now (out .exit)) ⌝ }
+    ensures { λ r. ⌜ LaidFrom w r (sectionsOf kind i) (now (out .entry)) (now (out .exit)) ⌝ }
 {
     if is_btf_ext(kind) {
         return w;
@@ -277,7 +280,7 @@ fn list_programs(
     at: usize,
 ) -> usize
     requires { ⌜ (w ≤ n) × (n ≤ length (now functions)) × (at + (n - w) ≤ length (now out)) ⌝ }
-    ensures { λ r. ⌜ Laid at r (programsOf kind (slice w n (now (functions .entry)))) (now (out .entry)) (now (out .exit)) ⌝ }
+    ensures { λ r. ⌜ LaidFrom at r (programNumbersOf kind (slice w n (now (functions .entry)))) (now (out .entry)) (now (out .exit)) ⌝ }
 {
     match kind {
         EbpfSectionKind::Program => {
@@ -294,20 +297,20 @@ fn list_maps(
     sections: u32,
     kind: EbpfSectionKind,
     i: u32,
-    order: &[u32],
+    symbols: &[u32],
     lo: usize,
     hi: usize,
     out: &mut [u32],
     w: usize,
 ) -> usize
     requires { ⌜
-        (lo ≤ hi) × (hi ≤ length (now order)) × (w + (hi - lo) < length (now out))
-        × ((k : ℕ) → lo ≤ k → k < hi → sections + getD (now order) k 0 < 2 ^ 32)
+        (lo ≤ hi) × (hi ≤ length (now symbols)) × (w + (hi - lo) < length (now out))
+        × ((k : ℕ) → lo ≤ k → k < hi → sections + getD (now symbols) k 0 < 2 ^ 32)
         ⌝ }
-    ensures { λ r. ⌜ Laid w r (mapsOf sections kind i (slice lo hi (now (order .entry)))) (now (out .entry)) (now (out .exit)) ⌝ }
+    ensures { λ r. ⌜ LaidFrom w r (mapNumbersOf sections kind i (slice lo hi (now (symbols .entry)))) (now (out .entry)) (now (out .exit)) ⌝ }
 {
     match kind {
-        EbpfSectionKind::Maps => parse_maps::map_numbers(sections, order, lo, hi, out, w),
+        EbpfSectionKind::Maps => parse_maps::map_numbers(sections, symbols, lo, hi, out, w),
         EbpfSectionKind::Bss | EbpfSectionKind::Data | EbpfSectionKind::Rodata => {
             out[w] = map_number(sections, MapSource::Section(i));
             w + 1
@@ -321,7 +324,7 @@ fn list_others(
     count: u32,
     kind: EbpfSectionKind,
     i: u32,
-    order: &[u32],
+    symbols: &[u32],
     lo: usize,
     hi: usize,
     sections: &mut [u32],
@@ -331,10 +334,10 @@ fn list_others(
     n: Counts,
     m: usize,
 ) -> Counts
-    requires { ⌜ RoomFor count (now order) lo hi (now sections) (now programs) (now functions) (now maps) n m ⌝ }
+    requires { ⌜ RoomFor count (now symbols) lo hi (now sections) (now programs) (now functions) (now maps) n m ⌝ }
     ensures { λ r.
         ⌜
-        Lists count kind i (slice lo hi (now (order .entry))) (slice (n .functions) m (now (functions .entry))) n m r (now (sections .entry))
+        Lists count kind i (slice lo hi (now (symbols .entry))) (slice (n .functions) m (now (functions .entry))) n m r (now (sections .entry))
         (now (programs .entry)) (now (maps .entry)) (now (sections .exit)) (now (programs .exit)) (now (maps .exit))
         ⌝ }
 {
@@ -344,7 +347,7 @@ fn list_others(
         sections: list_section(kind, i, sections, n.sections),
         programs: list_programs(kind, functions, n.functions, m, programs, n.programs),
         functions: m,
-        maps: list_maps(count, kind, i, order, lo, hi, maps, n.maps),
+        maps: list_maps(count, kind, i, symbols, lo, hi, maps, n.maps),
         license,
         version,
     }
@@ -356,7 +359,7 @@ fn parse_sections(
     t: &[u32],
     v: View,
     next: &[u32],
-    order: &[u32],
+    symbols: &[u32],
     sections: &mut [u32],
     programs: &mut [u32],
     functions: &mut [u32],
@@ -365,7 +368,7 @@ fn parse_sections(
     version: KernelVersion,
 ) -> Tables
     requires { ⌜
-        NextOf (now d) (now t) v (now next) × (now order ≡ sorted (bySection (symbolIn (now d) (now t) v)) (upTo (v .symbols)))
+        NextOf (now d) (now t) v (now next) × (now symbols ≡ sorted (bySection (symbolIn (now d) (now t) v)) (upTo (v .symbols)))
         × (v .sections ≤ length (now sections)) × (v .symbols ≤ length (now programs)) × (v .symbols ≤ length (now functions))
         × (v .sections + v .symbols ≤ length (now maps)) × Readable (now d) (now t) v
         × (license ≡ licenseAt (now d) (now t) v) × (version ≡ versionOf (objectIn (now d) (now t) v))
@@ -393,7 +396,7 @@ fn parse_sections(
             Step::Record(i, moved) => {
                 let s = records::section(d, t, v, i);
                 let kind = object::kind_of(d, t, v, s);
-                let at = group_of(d, t, v, s, order, from);
+                let at = group_of(d, t, v, s, symbols, from);
                 let lo = at.lo;
                 let hi = at.hi;
                 let a = count + lo;
@@ -406,7 +409,7 @@ fn parse_sections(
                     s,
                     kind,
                     next,
-                    order,
+                    symbols,
                     lo,
                     hi,
                     &mut programs[lo..hi],
@@ -420,7 +423,7 @@ fn parse_sections(
                             end,
                             kind,
                             i,
-                            order,
+                            symbols,
                             lo,
                             hi,
                             sections,
@@ -448,14 +451,14 @@ pub fn parse_object(
     t: &[u32],
     v: View,
     next: &mut [u32],
-    order: &mut [u32],
+    symbols: &mut [u32],
     sections: &mut [u32],
     programs: &mut [u32],
     functions: &mut [u32],
     maps: &mut [u32],
 ) -> Tables
     requires { ⌜
-        (v .relocations ≤ length (now next)) × (length (now order) ≡ v .symbols) × (v .sections ≤ length (now sections))
+        (v .relocations ≤ length (now next)) × (length (now symbols) ≡ v .symbols) × (v .sections ≤ length (now sections))
         × (v .symbols ≤ length (now programs)) × (v .symbols ≤ length (now functions)) × (v .sections + v .symbols ≤ length (now maps))
         × Readable (now d) (now t) v
         ⌝ }
@@ -467,7 +470,7 @@ pub fn parse_object(
 {
     parse_first::next_untargeted(d, t, v, next);
     let y = size(v.symbols);
-    symbol_groups::by_section(d, t, v, order, &mut programs[0..y]);
+    symbol_groups::by_section(d, t, v, symbols, &mut programs[0..y]);
     let named = parse_first::find_named(d, t, v);
     let named_license = named.license;
     let named_version = named.version;
@@ -484,7 +487,7 @@ pub fn parse_object(
         t,
         v,
         next,
-        order,
+        symbols,
         sections,
         programs,
         functions,

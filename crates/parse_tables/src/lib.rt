@@ -56,12 +56,12 @@ pub fn parse(
     programs: &mut [u32],
     functions: &mut [u32],
     maps: &mut [u32],
-    order: &mut [u32],
+    symbols: &mut [u32],
     next: &mut [u32],
 ) -> Tables
     requires { ⌜
         (v .sections ≤ length (now sections)) × (v .symbols ≤ length (now programs)) × (v .symbols ≤ length (now functions))
-        × (v .sections + v .symbols ≤ length (now maps)) × (v .sections + v .symbols ≤ length (now order))
+        × (v .sections + v .symbols ≤ length (now maps)) × (v .sections + v .symbols ≤ length (now symbols))
         × (v .relocations ≤ length (now next)) × Readable (now d) (now t) v
         ⌝ }
     ensures { λ r.
@@ -75,7 +75,7 @@ pub fn parse(
         t,
         v,
         next,
-        &mut order[0..y],
+        &mut symbols[0..y],
         sections,
         programs,
         functions,
@@ -84,7 +84,7 @@ pub fn parse(
     match listed {
         Tables::Refused(r) => Tables::Refused(r),
         Tables::Numbers(n) => {
-            let counts = number_tables(d, t, v, sections, programs, functions, maps, order, n);
+            let counts = number_tables(d, t, v, sections, programs, functions, maps, symbols, n);
             Tables::Numbers(counts)
         }
     }

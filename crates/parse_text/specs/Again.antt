@@ -20,16 +20,16 @@ abbrev pub conflictOf : Option ℕ → Conflict
 conflictOf none = Conflict.Nothing
 conflictOf (some j) = Conflict.At j
 
-abbrev pub numberOf : Conflict → Option ℕ
-numberOf Conflict.Nothing = none
-numberOf (Conflict.At j) = some j
+abbrev pub conflictNumber : Conflict → Option ℕ
+conflictNumber Conflict.Nothing = none
+conflictNumber (Conflict.At j) = some j
 
 abbrev pub nothingYet : Again
 nothingYet = record { seen = false; address = 0; least = Conflict.Nothing }
 
 -- one defined text symbol more
 abbrev pub again : Again → ℕ → ℕ → Again
-again a j x = record { seen = true; address = x; least = cond (a .seen && eqb (a .address) x) (conflictOf (earlier (numberOf (a .least)) (some j))) (a .least) }
+again a j x = record { seen = true; address = x; least = cond (a .seen && eqb (a .address) x) (conflictOf (earlier (conflictNumber (a .least)) (some j))) (a .least) }
 
 -- one symbol more
 unfoldable pub againNext : Again → ℕ → SymbolRecord → Again
@@ -44,7 +44,7 @@ module _ (a : Again) (j : ℕ) (y : SymbolRecord) where
   next-other e = rw e
 
   pub next-again : definedRecord y ≡ true → a .seen ≡ true → a .address ≡ y .address
-      → with (conflictOf (earlier (numberOf (a .least)) (some j))) ≡ againNext a j y
+      → with (conflictOf (earlier (conflictNumber (a .least)) (some j))) ≡ againNext a j y
   unfolding againNext
   next-again e s q = rw (e, s, eq-eqb (a .address) (y .address) q)
 
@@ -52,7 +52,7 @@ module _ (a : Again) (j : ℕ) (y : SymbolRecord) where
   unfolding againNext
   next-apart e q = rw (e, ne-eqb (a .address) (y .address) q) (go (a .seen))
     where
-      go : (b : Bool) → with (a .least) ≡ with (cond (b && false) (conflictOf (earlier (numberOf (a .least)) (some j))) (a .least))
+      go : (b : Bool) → with (a .least) ≡ with (cond (b && false) (conflictOf (earlier (conflictNumber (a .least)) (some j))) (a .least))
       go true = refl
       go false = refl
 
@@ -60,16 +60,16 @@ module _ (a : Again) (j : ℕ) (y : SymbolRecord) where
   unfolding againNext
   next-first e s = rw (e, s)
 
-number-back : (o : Option ℕ) → numberOf (conflictOf o) ≡ o
+number-back : (o : Option ℕ) → conflictNumber (conflictOf o) ≡ o
 number-back none = refl
 number-back (some j) = refl
 
 -- what the answer says of the number
 pub at-number : (o : Option ℕ) (j : ℕ) → conflictOf o ≡ Conflict.At j → o ≡ some j
-at-number o j e = sym (number-back o) ∙ ap numberOf e
+at-number o j e = sym (number-back o) ∙ ap conflictNumber e
 
 pub no-number : (o : Option ℕ) → conflictOf o ≡ Conflict.Nothing → o ≡ none
-no-number o e = sym (number-back o) ∙ ap numberOf e
+no-number o e = sym (number-back o) ∙ ap conflictNumber e
 
 module _ (addr : ℕ → ℕ) where
   -- the least to have the address of the one before it, where x is before the first if seen says so
@@ -80,7 +80,7 @@ module _ (addr : ℕ → ℕ) where
 
   -- what the pass answers in the end, with l before it
   unfoldable pub answer : Again → List ℕ → Conflict
-  answer a l = conflictOf (earlier (numberOf (a .least)) (after (a .seen) (a .address) l))
+  answer a l = conflictOf (earlier (conflictNumber (a .least)) (after (a .seen) (a .address) l))
 
   pub answer-first : (l : List ℕ) → conflictOf (leastAgain addr l) ≡ answer nothingYet l
   unfolding answer
@@ -90,7 +90,7 @@ module _ (addr : ℕ → ℕ) where
   unfolding answer leastAgain
   answer-end a = go (a .seen) (a .least)
     where
-      go : (b : Bool) (s : Conflict) → conflictOf (earlier (numberOf s) (after b (a .address) [])) ≡ s
+      go : (b : Bool) (s : Conflict) → conflictOf (earlier (conflictNumber s) (after b (a .address) [])) ≡ s
       go true Conflict.Nothing = refl
       go true (Conflict.At j) = refl
       go false Conflict.Nothing = refl
@@ -106,11 +106,11 @@ module _ (addr : ℕ → ℕ) where
   answer-again a j l = go (a .seen) (eqb (a .address) (addr j)) refl
     where
       n : Option ℕ
-      n = numberOf (a .least)
+      n = conflictNumber (a .least)
 
       go : (b c : Bool) → eqb (a .address) (addr j) ≡ c
           → conflictOf (earlier n (after b (a .address) (j ∷ l)))
-          ≡ conflictOf (earlier (numberOf (cond (b && c) (conflictOf (earlier n (some j))) (a .least))) (after true (addr j) l))
+          ≡ conflictOf (earlier (conflictNumber (cond (b && c) (conflictOf (earlier n (some j))) (a .least))) (after true (addr j) l))
       go false c e = ap (λ o. conflictOf (earlier n o)) (first-after j l)
       go true false e = rw e (ap (λ o. conflictOf (earlier n o)) (first-after j l))
       go true true e = rw (e, number-back, earlier-join) (ap (λ o. conflictOf (earlier n (earlier (some j) o))) (first-after j l))

@@ -61,8 +61,8 @@ parsedText none n = ParsedText.Functions n
 parsedText (some r) n = ParsedText.Refused r
 
 -- the numbers m laid into a list from place w on
-abbrev pub laid : List ℕ → ℕ → List ℕ → List ℕ
-laid out w m = take w out ++ (m ++ drop (w + length m) out)
+abbrev pub numbersLaid : List ℕ → ℕ → List ℕ → List ℕ
+numbersLaid out w m = take w out ++ (m ++ drop (w + length m) out)
 
 module _ (d t : List ℕ) (v : View) (s : SectionRecord) where
   abbrev sec : Section
@@ -152,7 +152,7 @@ module _ (d t : List ℕ) (v : View) (s : SectionRecord) where
   -- what the walk answers and leaves in the lent numbers
   pub record Walked (out₀ : List ℕ) (w : ℕ) (r : ParsedText) (out : List ℕ) : Type 0 where
     pub answer : r ≡ parsedText (walkFrom (s .bytes .length) 0) (w + length (keptFrom (s .bytes .length) 0))
-    pub numbers : out ≡ laid out₀ w (keptFrom (s .bytes .length) 0)
+    pub numbers : out ≡ numbersLaid out₀ w (keptFrom (s .bytes .length) 0)
 
   -- ---- the whole section
 
@@ -181,7 +181,7 @@ module _ (d t : List ℕ) (v : View) (s : SectionRecord) where
   -- what parsing a section answers and leaves in the lent numbers
   pub record Parsed (out₀ : List ℕ) (w : ℕ) (r : ParsedText) (out : List ℕ) : Type 0 where
     pub answer : r ≡ parsedText (textRefusal (objectIn d t v) sec) (w + length functionNumbers)
-    pub numbers : out ≡ laid out₀ w functionNumbers
+    pub numbers : out ≡ numbersLaid out₀ w functionNumbers
 
   module _ (order : List ℕ) (lo hi : ℕ) (e : textGroup d t v order lo hi ≡ textIn d t v sec) where
     -- 11

@@ -7,7 +7,7 @@ ghost use Rattle.catalogue_laws.specs.Shared.{earlier as earlierOf, leastAgain}
 ghost use Rattle.object.specs.View.{sectionFrom};
 ghost use Rattle.object.specs.Checked.{checkedOf};
 ghost use Rattle.parse_text.specs.Group.{addressIn, textGroup, textIn};
-ghost use Rattle.parse_text.specs.Again.{conflictOf, numberOf, againNext};
+ghost use Rattle.parse_text.specs.Again.{conflictOf, conflictNumber, againNext};
 ghost use Rattle.parse_text.specs.Parsed.{refusal, unknownSymbol, invalidSymbol, Walked, Parsed};
 use model::Refusal;
 use model::SectionIndex;
@@ -39,7 +39,7 @@ struct Again {
 }
 
 fn earlier(a: Conflict, j: u32) -> Conflict
-    ensures { λ r. ⌜ r ≡ conflictOf (earlierOf (numberOf a) (some j)) ⌝ }
+    ensures { λ r. ⌜ r ≡ conflictOf (earlierOf (conflictNumber a) (some j)) ⌝ }
 {
     match a {
         Conflict::At(i) => {
@@ -81,14 +81,14 @@ pub fn symbol_table_conflict(
     d: &[u8],
     t: &[u32],
     v: View,
-    order: &[u32],
+    symbols: &[u32],
     lo: usize,
     hi: usize,
 ) -> Conflict
-    requires { ⌜ (lo ≤ hi) × (hi ≤ length (now order)) ⌝ }
+    requires { ⌜ (lo ≤ hi) × (hi ≤ length (now symbols)) ⌝ }
     ensures { λ r.
         ⌜
-        r ≡ conflictOf (leastAgain (addressIn (now (d .entry)) (now (t .entry)) v) (textGroup (now (d .entry)) (now (t .entry)) v (now (order .entry)) lo hi))
+        r ≡ conflictOf (leastAgain (addressIn (now (d .entry)) (now (t .entry)) v) (textGroup (now (d .entry)) (now (t .entry)) v (now (symbols .entry)) lo hi))
         ⌝ }
 {
     let mut a = Again {
@@ -98,7 +98,7 @@ pub fn symbol_table_conflict(
     };
     let mut k = lo;
     while k < hi {
-        let j = order[k];
+        let j = symbols[k];
         a = a.next(j, records::symbol(d, t, v, j));
         k += 1;
     }
@@ -147,14 +147,14 @@ fn walk(
     t: &[u32],
     v: View,
     s: SectionRecord,
-    order: &[u32],
+    symbols: &[u32],
     lo: usize,
     hi: usize,
     out: &mut [u32],
     w: usize,
 ) -> ParsedText
-    requires { ⌜ (lo ≤ hi) × (hi ≤ length (now order)) × (w + (hi - lo) ≤ length (now out)) ⌝ }
-    requires { ⌜ textGroup (now d) (now t) v (now order) lo hi ≡ textIn (now d) (now t) v (sectionFrom (now d) (now t) v s) ⌝ }
+    requires { ⌜ (lo ≤ hi) × (hi ≤ length (now symbols)) × (w + (hi - lo) ≤ length (now out)) ⌝ }
+    requires { ⌜ textGroup (now d) (now t) v (now symbols) lo hi ≡ textIn (now d) (now t) v (sectionFrom (now d) (now t) v s) ⌝ }
     ensures { λ r. ⌜ Walked (now (d .entry)) (now (t .entry)) v s (now (out .entry)) w r (now (out .exit)) ⌝ }
 {
     let len = stream::wide64(s.bytes.length);
@@ -171,7 +171,7 @@ fn walk(
             if k >= hi {
                 return unknown_symbol(s);
             }
-            let j = order[k];
+            let j = symbols[k];
             k += 1;
             let y = records::symbol(d, t, v, j);
             if object::is_defined_text(y) {
@@ -200,21 +200,21 @@ pub fn parse_text_section(
     t: &[u32],
     v: View,
     s: SectionRecord,
-    order: &[u32],
+    symbols: &[u32],
     lo: usize,
     hi: usize,
     out: &mut [u32],
     w: usize,
 ) -> ParsedText
-    requires { ⌜ (lo ≤ hi) × (hi ≤ length (now order)) × (w + (hi - lo) ≤ length (now out)) ⌝ }
-    requires { ⌜ textGroup (now d) (now t) v (now order) lo hi ≡ textIn (now d) (now t) v (sectionFrom (now d) (now t) v s) ⌝ }
+    requires { ⌜ (lo ≤ hi) × (hi ≤ length (now symbols)) × (w + (hi - lo) ≤ length (now out)) ⌝ }
+    requires { ⌜ textGroup (now d) (now t) v (now symbols) lo hi ≡ textIn (now d) (now t) v (sectionFrom (now d) (now t) v s) ⌝ }
     ensures { λ r. ⌜ Parsed (now (d .entry)) (now (t .entry)) v s (now (out .entry)) w r (now (out .exit)) ⌝ }
 {
-    match symbol_table_conflict(d, t, v, order, lo, hi) {
+    match symbol_table_conflict(d, t, v, symbols, lo, hi) {
         Conflict::At(j) => {
             let y = records::symbol(d, t, v, j);
             ParsedText::Refused(refused(11, s.index, y.index))
         }
-        Conflict::Nothing => walk(d, t, v, s, order, lo, hi, out, w),
+        Conflict::Nothing => walk(d, t, v, s, symbols, lo, hi, out, w),
     }
 }

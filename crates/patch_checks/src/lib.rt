@@ -194,13 +194,13 @@ fn entry_refusal(
     v: View,
     x: Entry,
     patches: &[u8],
-    order: &[u32],
+    symbols: &[u32],
     maps: &[u32],
     n: usize,
     by: &[u32],
     e: u64,
 ) -> Checked
-    requires { ⌜ Sited (now d) (now t) v (now maps) n (now by) × Searchable (now d) (now t) v (now order) (x .name .length) ⌝ }
+    requires { ⌜ Sited (now d) (now t) v (now maps) n (now by) × Searchable (now d) (now t) v (now symbols) (x .name .length) ⌝ }
     ensures { λ r.
         ⌜
         r
@@ -217,7 +217,7 @@ fn entry_refusal(
     }
     let at = x.name.at as usize;
     let end = at + x.name.length as usize;
-    match bearer_of(d, t, v, order, &patches[at..end]) {
+    match bearer_of(d, t, v, symbols, &patches[at..end]) {
         Bearer::Nothing => {
             if x.mark == 1 {
                 of_entry(20, e)
@@ -237,12 +237,12 @@ pub fn patch_refusal(
     v: View,
     entries: &[u64],
     patches: &[u8],
-    order: &[u32],
+    symbols: &[u32],
     maps: &[u32],
     n: usize,
     by: &[u32],
 ) -> Checked
-    requires { ⌜ Sited (now d) (now t) v (now maps) n (now by) × Named (now d) (now t) v (now entries) (now order) ⌝ }
+    requires { ⌜ Sited (now d) (now t) v (now maps) n (now by) × Named (now d) (now t) v (now entries) (now symbols) ⌝ }
     ensures { λ r.
         ⌜
         r
@@ -256,7 +256,18 @@ pub fn patch_refusal(
     while e < count {
         let x = entry_at(entries, e);
         let entry = (e + 1) as u64;
-        if let Checked::Refused(r) = entry_refusal(d, t, v, x, patches, order, maps, n, by, entry) {
+        if let Checked::Refused(r) = entry_refusal(
+            d,
+            t,
+            v,
+            x,
+            patches,
+            symbols,
+            maps,
+            n,
+            by,
+            entry,
+        ) {
             return Checked::Refused(r);
         }
         e += 1;

@@ -43,11 +43,11 @@ unfolding patchedMaps patchedMap
 none-patched o [] = refl
 none-patched o (m ∷ ms) = ap (λ l. m ∷ l) (none-patched o ms)
 
-pub patched-is : (o : Object) (ps : List Patch) (c : Catalogue) → patched o ps c ≡ withMaps c (patchedMaps o ps (c .maps))
+pub maps-patched : (o : Object) (ps : List Patch) (c : Catalogue) → patched o ps c ≡ withMaps c (patchedMaps o ps (c .maps))
 unfolding patched withMaps
-patched-is o [] c = ap (withMaps c) (sym (none-patched o (c .maps)))
-patched-is o (p ∷ ps) c =
-    patched-is o ps (withMaps c (patchMaps (bearers o (p .name)) (p .bytes) (c .maps)))
+maps-patched o [] c = ap (withMaps c) (sym (none-patched o (c .maps)))
+maps-patched o (p ∷ ps) c =
+    maps-patched o ps (withMaps c (patchMaps (bearers o (p .name)) (p .bytes) (c .maps)))
     ∙ ap (λ ms. withMaps c (patchedMaps o ps ms)) (reach-all (bearers o (p .name)) (p .bytes) (c .maps))
     ∙ ap (withMaps c) (then-rest o p ps (c .maps))
 

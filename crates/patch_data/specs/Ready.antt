@@ -23,7 +23,7 @@ use Rattle.patch_checks.specs.Entries.{Named, countOf}
 use Rattle.patch_checks.specs.Checks.{mapsOf, Sited, restAt, rest-all}
 use Rattle.patch_data.specs.Acts.{Rows, ownAfter, own-first, own-last}
 use Rattle.patch_data.specs.Alone.{Alone, numbers-alone}
-use Rattle.patch_data.specs.Patched.{patchedMaps, patched-is}
+use Rattle.patch_data.specs.Patched.{patchedMaps, maps-patched}
 
 module _ (d t : List ℕ) (v : View) where
   -- how many maps the object has
@@ -64,7 +64,7 @@ module _ (d t : List ℕ) (v : View) where
       ends =
           own-last d t v entries lent (mapNumbers d t v) mapCount
           ∙ ap (λ ms. each mapOwn (patchedMaps (objectIn d t v) (patchesOf entries lent) ms)) maps-are
-          ∙ ap (λ c. each mapOwn (c .maps)) (sym (patched-is (objectIn d t v) (patchesOf entries lent) (catalogueOf (objectIn d t v))))
+          ∙ ap (λ c. each mapOwn (c .maps)) (sym (maps-patched (objectIn d t v) (patchesOf entries lent) (catalogueOf (objectIn d t v))))
 
       pub checks-all : patchRefusal (objectIn d t v) objectMaps 1 (patchesOf entries lent) ≡ none → checksAt entries lent 0
       checks-all z =

@@ -76,14 +76,14 @@ fn patch_entry(
     entries: &[u64],
     e: usize,
     patches: &[u8],
-    order: &[u32],
+    symbols: &[u32],
     by: &[u32],
     rows: &[u64],
     own: usize,
     bytes: &mut [u8],
 )
     requires { ⌜
-        Ready (now d) (now t) v (now entries) (now order) (now by) (now rows) own
+        Ready (now d) (now t) v (now entries) (now symbols) (now by) (now rows) own
         × (e < countOf (now entries))
         × checksAt (now d) (now t) v (now entries) (now patches) e
         × (now bytes ≡ ownAt (now d) (now t) v (now entries) (now patches) e)
@@ -95,7 +95,7 @@ fn patch_entry(
     let end = at + x.name.length as usize;
     let from = x.bytes.at as usize;
     let len = x.bytes.length as usize;
-    match bearer_of(d, t, v, order, &patches[at..end]) {
+    match bearer_of(d, t, v, symbols, &patches[at..end]) {
         Bearer::Nothing => {}
         Bearer::One(j) => {
             let y = symbol(d, t, v, j);
@@ -112,14 +112,14 @@ pub fn patch_own(
     v: View,
     entries: &[u64],
     patches: &[u8],
-    order: &[u32],
+    symbols: &[u32],
     by: &[u32],
     rows: &[u64],
     own: usize,
     bytes: &mut [u8],
 )
     requires { ⌜
-        Ready (now d) (now t) v (now entries) (now order) (now by) (now rows) own
+        Ready (now d) (now t) v (now entries) (now symbols) (now by) (now rows) own
         × (patchRefusal (objectIn (now d) (now t) v) (objectMaps (now d) (now t) v) 1 (patchesOf (now entries) (now patches)) ≡ none)
         × (now bytes ≡ each mapOwn (objectMaps (now d) (now t) v))
         ⌝ }
@@ -134,7 +134,7 @@ pub fn patch_own(
     let count = (entries.len() + 4) / 5;
     let mut e: usize = 0;
     while e < count {
-        patch_entry(d, t, v, entries, e, patches, order, by, rows, own, bytes);
+        patch_entry(d, t, v, entries, e, patches, symbols, by, rows, own, bytes);
         e += 1;
     }
 }
@@ -146,7 +146,7 @@ pub fn patch_map_data(
     v: View,
     entries: &[u64],
     patches: &[u8],
-    order: &[u32],
+    symbols: &[u32],
     by: &[u32],
     rows: &[u64],
     own: usize,
@@ -154,7 +154,7 @@ pub fn patch_map_data(
     bytes: &mut [u8],
 )
     requires { ⌜
-        Ready (now d) (now t) v (now entries) (now order) (now by) (now rows) own
+        Ready (now d) (now t) v (now entries) (now symbols) (now by) (now rows) own
         × (patchRefusal (objectIn (now d) (now t) v) (objectMaps (now d) (now t) v) 1 (patchesOf (now entries) (now patches)) ≡ none)
         × (own ≤ end)
         × (end ≤ length (now bytes))
@@ -174,7 +174,7 @@ pub fn patch_map_data(
         v,
         entries,
         patches,
-        order,
+        symbols,
         by,
         rows,
         own,

@@ -190,8 +190,8 @@ module _ (key : ℕ → List ℕ) (word : List ℕ) where
 -- ---- symbols sorted by the lengths of their names, then by their first bytes
 
 -- a word behind its length
-abbrev pub keyed : List ℕ → List ℕ
-keyed word = length word ∷ word
+abbrev pub lengthFirst : List ℕ → List ℕ
+lengthFirst word = length word ∷ word
 
 module _ (d t : List ℕ) (v : View) where
   abbrev nameAt : ℕ → Extent
@@ -225,7 +225,7 @@ module _ (d t : List ℕ) (v : View) where
   by-name-ordered n = sorted-ordered (byKey (cutName n)) (key-order (cutName n)) (upTo (v .symbols))
 
   -- whether a symbol bears a word is seen by its length and by all of its bytes
-  bears-key : (word : List ℕ) (j : ℕ) → same (keyed word) (nameOf j) ≡ same word (nameIn d v (nameAt j))
+  bears-key : (word : List ℕ) (j : ℕ) → same (lengthFirst word) (nameOf j) ≡ same word (nameIn d v (nameAt j))
   unfolding same
   bears-key word j = go (eqb (length word) (nameAt j .length)) (same word (nameIn d v (nameAt j))) refl refl
     where
@@ -241,32 +241,32 @@ module _ (d t : List ℕ) (v : View) where
     unfolding keyOf cutTo
     cut-none e = let m : min n (nameAt j .length) ≡ nameAt j .length = omega arith in rw m
 
-    before-cut : before (cutName n j) (keyed word) ≡ before (nameOf j) (keyed word)
+    before-cut : before (cutName n j) (lengthFirst word) ≡ before (nameOf j) (lengthFirst word)
     unfolding keyOf before
     before-cut = go (eqb (nameAt j .length) (length word)) refl
       where
-        go : (b : Bool) → eqb (nameAt j .length) (length word) ≡ b → before (cutName n j) (keyed word) ≡ before (nameOf j) (keyed word)
-        go true e = ap (λ (k : List ℕ). before k (keyed word)) (cut-none (eqb-true (nameAt j .length) (length word) e))
+        go : (b : Bool) → eqb (nameAt j .length) (length word) ≡ b → before (cutName n j) (lengthFirst word) ≡ before (nameOf j) (lengthFirst word)
+        go true e = ap (λ (k : List ℕ). before k (lengthFirst word)) (cut-none (eqb-true (nameAt j .length) (length word) e))
         go false e = rw e
 
-    same-cut : same (keyed word) (cutName n j) ≡ same (keyed word) (nameOf j)
+    same-cut : same (lengthFirst word) (cutName n j) ≡ same (lengthFirst word) (nameOf j)
     unfolding keyOf same
     same-cut = go (eqb (length word) (nameAt j .length)) refl
       where
-        go : (b : Bool) → eqb (length word) (nameAt j .length) ≡ b → same (keyed word) (cutName n j) ≡ same (keyed word) (nameOf j)
-        go true e = ap (same (keyed word)) (cut-none (sym (eqb-true (length word) (nameAt j .length) e)))
+        go : (b : Bool) → eqb (length word) (nameAt j .length) ≡ b → same (lengthFirst word) (cutName n j) ≡ same (lengthFirst word) (nameOf j)
+        go true e = ap (same (lengthFirst word)) (cut-none (sym (eqb-true (length word) (nameAt j .length) e)))
         go false e = rw e
 
-  alike : (word : List ℕ) (n i j : ℕ) → same (keyed word) (cutName n i) ≡ true → same (keyed word) (cutName n j) ≡ true → byKey (cutName n) i j ≡ true
+  alike : (word : List ℕ) (n i j : ℕ) → same (lengthFirst word) (cutName n i) ≡ true → same (lengthFirst word) (cutName n j) ≡ true → byKey (cutName n) i j ≡ true
   alike word n i j p q =
-      let e : cutName n j ≡ cutName n i = sym (same-is (keyed word) (cutName n j) q) ∙ same-is (keyed word) (cutName n i) p in
+      let e : cutName n j ≡ cutName n i = sym (same-is (lengthFirst word) (cutName n j) q) ∙ same-is (lengthFirst word) (cutName n i) p in
       ap not (ap (λ k. before k (cutName n i)) e ∙ before-irrefl (cutName n i))
 
-  bearers-sorted : (word : List ℕ) (n : ℕ) → length word ≤ n → keep (λ j. same (keyed word) (cutName n j)) (byName n) ≡ bearersIn d t v word
+  bearers-sorted : (word : List ℕ) (n : ℕ) → length word ≤ n → keep (λ j. same (lengthFirst word) (cutName n j)) (byName n) ≡ bearersIn d t v word
   unfolding byName bearersIn symbolFrom
   bearers-sorted word n enough =
-      keep-sorted (byKey (cutName n)) (λ j. same (keyed word) (cutName n j)) (alike word n) (upTo (v .symbols))
-      ∙ keep-ext (λ j. same (keyed word) (cutName n j)) (λ j. same word (nameIn d v (nameAt j))) (upTo (v .symbols)) (λ j. same-cut word n enough j ∙ bears-key word j)
+      keep-sorted (byKey (cutName n)) (λ j. same (lengthFirst word) (cutName n j)) (alike word n) (upTo (v .symbols))
+      ∙ keep-ext (λ j. same (lengthFirst word) (cutName n j)) (λ j. same word (nameIn d v (nameAt j))) (upTo (v .symbols)) (λ j. same-cut word n enough j ∙ bears-key word j)
 
   module _ (word order : List ℕ) (s : Searchable order (length word)) (short : length word ≤ 65535) where
     abbrev key : ℕ → List ℕ
@@ -278,39 +278,39 @@ module _ (d t : List ℕ) (v : View) where
     ordered : Ordered (byKey key) order
     ordered = rw (s .is) (by-name-ordered (s .bytes))
 
-    at-cut : (i : ℕ) → before (keyAt key (keyed word) order i) (keyed word) ≡ before (keyAt nameOf (keyed word) order i) (keyed word)
+    at-cut : (i : ℕ) → before (keyAt key (lengthFirst word) order i) (lengthFirst word) ≡ before (keyAt nameOf (lengthFirst word) order i) (lengthFirst word)
     at-cut i = before-cut word (s .bytes) known (getD order i 0)
 
     -- what holds of the name at m holds of those in front of it, or of those behind it
-    pub names-below : (m : ℕ) → m < length order → before (keyAt nameOf (keyed word) order m) (keyed word) ≡ true
-        → (i : ℕ) → i < m + 1 → before (keyAt nameOf (keyed word) order i) (keyed word) ≡ true
-    names-below m k q i n = sym (at-cut i) ∙ all-below key (keyed word) order ordered m k (at-cut m ∙ q) i n
+    pub names-below : (m : ℕ) → m < length order → before (keyAt nameOf (lengthFirst word) order m) (lengthFirst word) ≡ true
+        → (i : ℕ) → i < m + 1 → before (keyAt nameOf (lengthFirst word) order i) (lengthFirst word) ≡ true
+    names-below m k q i n = sym (at-cut i) ∙ all-below key (lengthFirst word) order ordered m k (at-cut m ∙ q) i n
 
-    pub names-above : (m : ℕ) → before (keyAt nameOf (keyed word) order m) (keyed word) ≡ false
-        → (i : ℕ) → m ≤ i → i < length order → before (keyAt nameOf (keyed word) order i) (keyed word) ≡ false
-    names-above m q i n k = sym (at-cut i) ∙ all-above key (keyed word) order ordered m (at-cut m ∙ q) i n k
+    pub names-above : (m : ℕ) → before (keyAt nameOf (lengthFirst word) order m) (lengthFirst word) ≡ false
+        → (i : ℕ) → m ≤ i → i < length order → before (keyAt nameOf (lengthFirst word) order i) (lengthFirst word) ≡ false
+    names-above m q i n k = sym (at-cut i) ∙ all-above key (lengthFirst word) order ordered m (at-cut m ∙ q) i n k
 
     -- what a look at the first two that are not before the word tells
-    module _ (r : ℕ) (f : First nameOf (keyed word) order r) where
-      first-cut : First key (keyed word) order r
+    module _ (r : ℕ) (f : First nameOf (lengthFirst word) order r) where
+      first-cut : First key (lengthFirst word) order r
       first-cut = record { within = f .within; below = λ i l. at-cut i ∙ f .below i l; above = λ i l m. at-cut i ∙ f .above i l m }
 
-      has-cut : (i : ℕ) → hasAt key (keyed word) order i ≡ hasAt nameOf (keyed word) order i
+      has-cut : (i : ℕ) → hasAt key (lengthFirst word) order i ≡ hasAt nameOf (lengthFirst word) order i
       has-cut i = ap (λ (b : Bool). ltb i (length order) && b) (same-cut word (s .bytes) known (getD order i 0))
 
-      kept : bearerOf (keep (λ j. same (keyed word) (key j)) order) ≡ bearerOf (bearersIn d t v word)
-      kept = ap bearerOf (ap (keep (λ j. same (keyed word) (key j))) (s .is) ∙ bearers-sorted word (s .bytes) known)
+      kept : bearerOf (keep (λ j. same (lengthFirst word) (key j)) order) ≡ bearerOf (bearersIn d t v word)
+      kept = ap bearerOf (ap (keep (λ j. same (lengthFirst word) (key j))) (s .is) ∙ bearers-sorted word (s .bytes) known)
 
-      pub nobody-bears : hasAt nameOf (keyed word) order r ≡ false → Bearer.Nothing ≡ bearerOf (bearersIn d t v word)
-      nobody-bears p = sym (nobody key (keyed word) order ordered r first-cut (has-cut r ∙ p)) ∙ kept
+      pub nobody-bears : hasAt nameOf (lengthFirst word) order r ≡ false → Bearer.Nothing ≡ bearerOf (bearersIn d t v word)
+      nobody-bears p = sym (nobody key (lengthFirst word) order ordered r first-cut (has-cut r ∙ p)) ∙ kept
 
-      pub one-bears : hasAt nameOf (keyed word) order r ≡ true → hasAt nameOf (keyed word) order (r + 1) ≡ false
+      pub one-bears : hasAt nameOf (lengthFirst word) order r ≡ true → hasAt nameOf (lengthFirst word) order (r + 1) ≡ false
           → Bearer.One (getD order r 0) ≡ bearerOf (bearersIn d t v word)
-      one-bears p q = sym (one key (keyed word) order ordered r first-cut (has-cut r ∙ p) (has-cut (r + 1) ∙ q)) ∙ kept
+      one-bears p q = sym (one key (lengthFirst word) order ordered r first-cut (has-cut r ∙ p) (has-cut (r + 1) ∙ q)) ∙ kept
 
-      pub several-bear : hasAt nameOf (keyed word) order r ≡ true → hasAt nameOf (keyed word) order (r + 1) ≡ true
+      pub several-bear : hasAt nameOf (lengthFirst word) order r ≡ true → hasAt nameOf (lengthFirst word) order (r + 1) ≡ true
           → Bearer.Several ≡ bearerOf (bearersIn d t v word)
-      several-bear p q = sym (several key (keyed word) order ordered r first-cut (has-cut r ∙ p) (has-cut (r + 1) ∙ q)) ∙ kept
+      several-bear p q = sym (several key (lengthFirst word) order ordered r first-cut (has-cut r ∙ p) (has-cut (r + 1) ∙ q)) ∙ kept
 
 pub stands-there : (key : ℕ → List ℕ) (word l : List ℕ) (i : ℕ) → hasAt key word l i ≡ true → i < length l
 stands-there key word l i e = ltb-true i (length l) (both-true (ltb i (length l)) (same word (keyAt key word l i)) e .0)

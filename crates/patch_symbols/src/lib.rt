@@ -6,7 +6,7 @@ ghost use Rattle.model.specs.Bytes.{same, before};
 ghost use Rattle.orders.specs.Compare.{ordering};
 ghost use Rattle.records.specs.Readable.{Readable};
 ghost use Rattle.patch_symbols.specs.Bearers.{bearerOf, bearersIn};
-ghost use Rattle.patch_symbols.specs.Search.{First, Searchable, hasAt, keyed, nameOf, byName};
+ghost use Rattle.patch_symbols.specs.Search.{First, Searchable, hasAt, lengthFirst, nameOf, byName};
 use object_view::View;
 use orders::Ordering;
 use record_keys::By;
@@ -23,18 +23,18 @@ pub enum Bearer {
 }
 
 // All symbols sorted by the lengths of their names, then by n bytes: as many as the longest word has that is searched for.
-pub fn by_name(d: &[u8], t: &[u32], v: View, n: u32, order: &mut [u32], tmp: &mut [u32])
-    requires { ⌜ (v .symbols ≤ 65536) × (length (now order) ≡ v .symbols) × (length (now tmp) ≡ v .symbols) ⌝ }
-    ensures { λ r. ⌜ now (order .exit) ≡ byName (now (d .entry)) (now (t .entry)) v n ⌝ }
+pub fn by_name(d: &[u8], t: &[u32], v: View, n: u32, symbols: &mut [u32], tmp: &mut [u32])
+    requires { ⌜ (v .symbols ≤ 65536) × (length (now symbols) ≡ v .symbols) × (length (now tmp) ≡ v .symbols) ⌝ }
+    ensures { λ r. ⌜ now (symbols .exit) ≡ byName (now (d .entry)) (now (t .entry)) v n ⌝ }
 {
-    record_sort::count_up(order);
-    record_sort::sort(d, t, v, By::SymbolNameLength(n), order, tmp);
+    record_sort::count_up(symbols);
+    record_sort::sort(d, t, v, By::SymbolNameLength(n), symbols, tmp);
 }
 
 // How the name of symbol j stands to a word: by the lengths, and where they are the same by the bytes.
 fn compare(d: &[u8], t: &[u32], v: View, j: u32, word: &[u8]) -> Ordering
     requires { ⌜ length (now word) < 2 ^ 60 ⌝ }
-    ensures { λ r. ⌜ r ≡ ordering (nameOf (now (d .entry)) (now (t .entry)) v j) (keyed (now (word .entry))) ⌝ }
+    ensures { λ r. ⌜ r ≡ ordering (nameOf (now (d .entry)) (now (t .entry)) v j) (lengthFirst (now (word .entry))) ⌝ }
 {
     let name = symbol_name(d, t, v, j);
     let n = size(name.length);
@@ -50,7 +50,7 @@ fn compare(d: &[u8], t: &[u32], v: View, j: u32, word: &[u8]) -> Ordering
 
 fn is_before(d: &[u8], t: &[u32], v: View, j: u32, word: &[u8]) -> bool
     requires { ⌜ length (now word) < 2 ^ 60 ⌝ }
-    ensures { λ r. ⌜ r ≡ before (nameOf (now (d .entry)) (now (t .entry)) v j) (keyed (now (word .entry))) ⌝ }
+    ensures { λ r. ⌜ r ≡ before (nameOf (now (d .entry)) (now (t .entry)) v j) (lengthFirst (now (word .entry))) ⌝ }
 {
     match compare(d, t, v, j, word) {
         Ordering::Less => true,
@@ -61,7 +61,7 @@ fn is_before(d: &[u8], t: &[u32], v: View, j: u32, word: &[u8]) -> bool
 
 fn is_same(d: &[u8], t: &[u32], v: View, j: u32, word: &[u8]) -> bool
     requires { ⌜ length (now word) < 2 ^ 60 ⌝ }
-    ensures { λ r. ⌜ r ≡ same (keyed (now (word .entry))) (nameOf (now (d .entry)) (now (t .entry)) v j) ⌝ }
+    ensures { λ r. ⌜ r ≡ same (lengthFirst (now (word .entry))) (nameOf (now (d .entry)) (now (t .entry)) v j) ⌝ }
 {
     match compare(d, t, v, j, word) {
         Ordering::Less => false,
@@ -71,27 +71,27 @@ fn is_same(d: &[u8], t: &[u32], v: View, j: u32, word: &[u8]) -> bool
 }
 
 // Whether a symbol stands at a place and bears the name.
-fn bears_at(d: &[u8], t: &[u32], v: View, order: &[u32], at: usize, word: &[u8]) -> bool
+fn bears_at(d: &[u8], t: &[u32], v: View, symbols: &[u32], at: usize, word: &[u8]) -> bool
     requires { ⌜ length (now word) < 2 ^ 60 ⌝ }
-    ensures { λ r. ⌜ r ≡ hasAt (nameOf (now (d .entry)) (now (t .entry)) v) (keyed (now (word .entry))) (now (order .entry)) at ⌝ }
+    ensures { λ r. ⌜ r ≡ hasAt (nameOf (now (d .entry)) (now (t .entry)) v) (lengthFirst (now (word .entry))) (now (symbols .entry)) at ⌝ }
 {
-    if at < order.len() {
-        is_same(d, t, v, order[at], word)
+    if at < symbols.len() {
+        is_same(d, t, v, symbols[at], word)
     } else {
         false
     }
 }
 
 // The place of the first symbol whose name is not before the word, or how many there are.
-fn lower_bound(d: &[u8], t: &[u32], v: View, order: &[u32], word: &[u8]) -> usize
-    requires { ⌜ Searchable (now d) (now t) v (now order) (length (now word)) × (length (now word) ≤ 65535) ⌝ }
-    ensures { λ r. ⌜ First (nameOf (now (d .entry)) (now (t .entry)) v) (keyed (now (word .entry))) (now (order .entry)) r ⌝ }
+fn lower_bound(d: &[u8], t: &[u32], v: View, symbols: &[u32], word: &[u8]) -> usize
+    requires { ⌜ Searchable (now d) (now t) v (now symbols) (length (now word)) × (length (now word) ≤ 65535) ⌝ }
+    ensures { λ r. ⌜ First (nameOf (now (d .entry)) (now (t .entry)) v) (lengthFirst (now (word .entry))) (now (symbols .entry)) r ⌝ }
 {
     let mut low: usize = 0;
-    let mut high: usize = order.len();
+    let mut high: usize = symbols.len();
     while low < high {
         let middle = low + (high - low) / 2;
-        if is_before(d, t, v, order[middle], word) {
+        if is_before(d, t, v, symbols[middle], word) {
             low = middle + 1;
         } else {
             high = middle;
@@ -100,20 +100,20 @@ fn lower_bound(d: &[u8], t: &[u32], v: View, order: &[u32], word: &[u8]) -> usiz
     low
 }
 
-pub fn bearer_of(d: &[u8], t: &[u32], v: View, order: &[u32], word: &[u8]) -> Bearer
-    requires { ⌜ Readable (now d) (now t) v × Searchable (now d) (now t) v (now order) (length (now word)) ⌝ }
+pub fn bearer_of(d: &[u8], t: &[u32], v: View, symbols: &[u32], word: &[u8]) -> Bearer
+    requires { ⌜ Readable (now d) (now t) v × Searchable (now d) (now t) v (now symbols) (length (now word)) ⌝ }
     ensures { λ r. ⌜ r ≡ bearerOf (bearersIn (now (d .entry)) (now (t .entry)) v (now (word .entry))) ⌝ }
 {
     // No name is as long.
     if word.len() > 65535 {
         return Bearer::Nothing;
     }
-    let at = lower_bound(d, t, v, order, word);
-    if !bears_at(d, t, v, order, at, word) {
+    let at = lower_bound(d, t, v, symbols, word);
+    if !bears_at(d, t, v, symbols, at, word) {
         return Bearer::Nothing;
     }
-    if bears_at(d, t, v, order, at + 1, word) {
+    if bears_at(d, t, v, symbols, at + 1, word) {
         return Bearer::Several;
     }
-    Bearer::One(order[at])
+    Bearer::One(symbols[at])
 }

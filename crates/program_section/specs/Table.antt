@@ -13,10 +13,11 @@ use Rattle.model.specs.ProgramName.{Second, Reading, fits, readings}
 use Rattle.model.specs.ProgramNumbers.{variantOf}
 use Rattle.model.specs.ReadBack.{programFrom}
 use Rattle.program_section.specs.declared.Found.{Found}
-use Rattle.program_section.specs.Same.{same-is, and-left, and-right}
+use Rattle.orders.specs.Keys.{same-is}
+use Rattle.program_section.specs.Same.{and-left, and-right}
 use Rattle.program_section.specs.Short.{rowGives, parsed, allRows, rows-alike, none-gives}
 use Rattle.program_section.specs.Found.{rowVariant, shownIn, parsedIn, Tells}
-use Rattle.program_section.specs.Words.{Entry, answering, reading, second, words, nothing, number}
+use Rattle.program_section.specs.Words.{Entry, answering, reading, second, wordTable, noWord, wordNumber}
 
 -- what a name's number tells
 abbrev pub toldBy : ℕ → Found
@@ -34,12 +35,12 @@ told-low n =
 abbrev pub alone : ℕ → Found
 alone n = cond (ltb n 0x30000) (Found.Program (rowVariant n)) Found.Nothing
 
-abbrev pub followed : ℕ → ℕ → Found
-followed n k = cond (eqb (k / 0x10000) (n / 0x10000 + 16)) (Found.Program (rowVariant (n + k % 0x10000))) Found.Nothing
+abbrev pub withSecond : ℕ → ℕ → Found
+withSecond n k = cond (eqb (k / 0x10000) (n / 0x10000 + 16)) (Found.Program (rowVariant (n + k % 0x10000))) Found.Nothing
 
 abbrev readAs : ℕ → Option (List ℕ) → Found
 readAs n none = alone n
-readAs n (some q) = followed n (number words q)
+readAs n (some q) = withSecond n (wordNumber wordTable q)
 
 abbrev pub answer : ℕ → Option (List ℕ) → Found
 answer n q = cond (ltb n 0x10000) (Found.Program (rowVariant n)) (cond (ltb n 0x60000) (readAs n q) Found.Nothing)
@@ -67,12 +68,12 @@ module _ (p : List ℕ) where
   Missing [] = Unit {0}
   Missing (e ∷ es) = (same (e .word) p ≡ false) × Missing es
 
-  pub by-words : (M : List ℕ → ℕ → Type 0) (es : List Entry) → Each (λ e. M (e .word) (e .number)) es → (Missing es → M p nothing) → M p (number es p)
-  unfolding number
+  pub by-words : (M : List ℕ → ℕ → Type 0) (es : List Entry) → Each (λ e. M (e .word) (e .number)) es → (Missing es → M p noWord) → M p (wordNumber es p)
+  unfolding wordNumber
   by-words M [] a lack = lack tt
   by-words M (e ∷ es) a lack = go (same (e .word) p) refl (λ h. by-words M es (a .1) (λ m. lack (h, m)))
     where
-      go : (b : Bool) → same (e .word) p ≡ b → (same (e .word) p ≡ false → M p (number es p)) → M p (cond b (e .number) (number es p))
+      go : (b : Bool) → same (e .word) p ≡ b → (same (e .word) p ≡ false → M p (wordNumber es p)) → M p (cond b (e .number) (wordNumber es p))
       go true h r = subst (λ (x : List ℕ). M x (e .number)) (same-is (e .word) p h) (a .0)
       go false h r = r h
 
@@ -97,38 +98,38 @@ missing-empty (e ∷ es) t = go (same (e .word) []) refl t (missing-empty es)
 abbrev knownSecond : Second → Bool
 knownSecond Second.unread = true
 knownSecond Second.absent = true
-knownSecond (Second.is w) = isIn w words
+knownSecond (Second.is w) = isIn w wordTable
 
 abbrev knownRow : Reading → Bool
-knownRow r = isIn (r .first) words && knownSecond (r .second)
+knownRow r = isIn (r .first) wordTable && knownSecond (r .second)
 
 readings-known : allRows knownRow readings ≡ true
-unfolding allRows readings words answering reading second same
+unfolding allRows readings wordTable answering reading second same
 readings-known = refl
 
 -- a first piece that the table lacks
-lacked : (p : List ℕ) (q : Option (List ℕ)) → Missing p words → firstIn (rowGives p q) readings ≡ none
+lacked : (p : List ℕ) (q : Option (List ℕ)) → Missing p wordTable → firstIn (rowGives p q) readings ≡ none
 lacked p q m =
     rows-alike knownRow (rowGives p q) (λ r. none)
-    (λ r t. rw (missing-word p (r .first) words m (and-left (isIn (r .first) words) (knownSecond (r .second)) t))) readings readings-known
+    (λ r t. rw (missing-word p (r .first) wordTable m (and-left (isIn (r .first) wordTable) (knownSecond (r .second)) t))) readings readings-known
     ∙ none-gives readings
 
 -- an empty piece is none of its words
-empty-lacked : Missing [] words
-unfolding words answering reading second same
-empty-lacked = missing-empty words refl
+empty-lacked : Missing [] wordTable
+unfolding wordTable answering reading second same
+empty-lacked = missing-empty wordTable refl
 
 -- a second piece that it lacks fits where an empty one does
-fits-lacked : (s : List ℕ) → Missing s words → (k : Second) → knownSecond k ≡ true → fits k (some s) ≡ fits k (some [])
+fits-lacked : (s : List ℕ) → Missing s wordTable → (k : Second) → knownSecond k ≡ true → fits k (some s) ≡ fits k (some [])
 unfolding fits
 fits-lacked s m Second.unread t = refl
 fits-lacked s m Second.absent t = refl
-fits-lacked s m (Second.is w) t = missing-word s w words m t ∙ sym (missing-word [] w words empty-lacked t)
+fits-lacked s m (Second.is w) t = missing-word s w wordTable m t ∙ sym (missing-word [] w wordTable empty-lacked t)
 
-second-lacked : (w s : List ℕ) → Missing s words → firstIn (rowGives w (some s)) readings ≡ firstIn (rowGives w (some [])) readings
+second-lacked : (w s : List ℕ) → Missing s wordTable → firstIn (rowGives w (some s)) readings ≡ firstIn (rowGives w (some [])) readings
 second-lacked w s m =
     rows-alike knownRow (rowGives w (some s)) (rowGives w (some []))
-    (λ r t. rw (fits-lacked s m (r .second) (and-right (isIn (r .first) words) (knownSecond (r .second)) t))) readings readings-known
+    (λ r t. rw (fits-lacked s m (r .second) (and-right (isIn (r .first) wordTable) (knownSecond (r .second)) t))) readings readings-known
 
 -- ---- the words one by one
 
@@ -157,31 +158,31 @@ second-tell q = tells-each (λ e. answer (e .number) q) (λ e. firstIn (rowGives
 
 -- first pieces that read a second, by the number of it
 abbrev ReadAt : List ℕ → ℕ → Type 0
-ReadAt s k = Each (λ e. Tells (followed (e .number) k) (firstIn (rowGives (e .word) (some s)) readings)) reading
+ReadAt s k = Each (λ e. Tells (withSecond (e .number) k) (firstIn (rowGives (e .word) (some s)) readings)) reading
 
-read-words : Each (λ x. ReadAt (x .word) (x .number)) words
-unfolding words answering reading second readings firstIn same fits variantOf programFrom
+read-words : Each (λ x. ReadAt (x .word) (x .number)) wordTable
+unfolding wordTable answering reading second readings firstIn same fits variantOf programFrom
 read-words =
-    tells-grid (λ x e. followed (e .number) (x .number)) (λ x e. firstIn (rowGives (e .word) (some (x .word))) readings) reading words refl refl
+    tells-grid (λ x e. withSecond (e .number) (x .number)) (λ x e. firstIn (rowGives (e .word) (some (x .word))) readings) reading wordTable refl refl
 
-read-empty : ReadAt [] nothing
+read-empty : ReadAt [] noWord
 unfolding reading readings firstIn same fits variantOf programFrom
-read-empty = tells-each (λ e. followed (e .number) nothing) (λ e. firstIn (rowGives (e .word) (some [])) readings) reading refl refl
+read-empty = tells-each (λ e. withSecond (e .number) noWord) (λ e. firstIn (rowGives (e .word) (some [])) readings) reading refl refl
 
-read-lacked : (s : List ℕ) → Missing s words → ReadAt s nothing
+read-lacked : (s : List ℕ) → Missing s wordTable → ReadAt s noWord
 read-lacked s m =
-    each-map (λ e. Tells (followed (e .number) nothing) (firstIn (rowGives (e .word) (some [])) readings)) _
-    (λ e t. subst (Tells (followed (e .number) nothing)) (sym (second-lacked (e .word) s m)) t) reading read-empty
+    each-map (λ e. Tells (withSecond (e .number) noWord) (firstIn (rowGives (e .word) (some [])) readings)) _
+    (λ e t. subst (Tells (withSecond (e .number) noWord)) (sym (second-lacked (e .word) s m)) t) reading read-empty
 
 reading-tell : (q : Option (List ℕ)) → Each (TellsAt q) reading
 unfolding reading readings firstIn same fits variantOf programFrom
 reading-tell none = tells-each (λ e. answer (e .number) none) (λ e. firstIn (rowGives (e .word) none) readings) reading refl refl
-reading-tell (some s) = by-words s ReadAt words read-words (read-lacked s)
+reading-tell (some s) = by-words s ReadAt wordTable read-words (read-lacked s)
 
 -- the answer by the numbers of a name's two pieces
-pub tells : (p : List ℕ) (q : Option (List ℕ)) → Tells (answer (number words p) q) (firstIn (rowGives p q) readings)
-unfolding words
+pub tells : (p : List ℕ) (q : Option (List ℕ)) → Tells (answer (wordNumber wordTable p) q) (firstIn (rowGives p q) readings)
+unfolding wordTable
 tells p q =
-    by-words p (λ w n. Tells (answer n q) (firstIn (rowGives w q) readings)) words
+    by-words p (λ w n. Tells (answer n q) (firstIn (rowGives w q) readings)) wordTable
     (each-append (TellsAt q) answering (reading ++ second) (answering-tell q) (each-append (TellsAt q) reading second (reading-tell q) (second-tell q)))
     (λ m. rw (lacked p q m) (record { shows = refl; gives = refl }))

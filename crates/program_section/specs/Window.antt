@@ -16,8 +16,8 @@ use Rattle.program_section.specs.Same.{and-left, and-right}
 use Rattle.program_section.specs.Pieces.{until, until-le, piece, first-piece, second-piece}
 use Rattle.program_section.specs.Short.{long-name}
 use Rattle.program_section.specs.Found.{rowVariant, Tells}
-use Rattle.program_section.specs.Words.{Entry, answering, reading, second, words, nothing, number, short-word}
-use Rattle.program_section.specs.Table.{alone, followed, answer, Each, by-words, tells}
+use Rattle.program_section.specs.Words.{Entry, answering, reading, second, wordTable, noWord, wordNumber, short-word}
+use Rattle.program_section.specs.Table.{alone, withSecond, answer, Each, by-words, tells}
 
 drop-take : (k m : ℕ) (l : List ℕ) → drop k (take m l) ≡ take (m - k) (drop k l)
 drop-take zero m l = let e : m ≡ m - 0 = omega arith in ap (λ (n : ℕ). take n l) e
@@ -47,7 +47,7 @@ unfoldable allWhole : List Entry → Bool
 allWhole [] = true
 allWhole (e ∷ es) = (eqb (until (e .word)) (length (e .word)) && ltb (length (e .word)) 18) && allWhole es
 
-each-whole : (es : List Entry) → allWhole es ≡ true → Each (λ e. (e .number ≡ nothing → ⊥) → Whole (e .word)) es
+each-whole : (es : List Entry) → allWhole es ≡ true → Each (λ e. (e .number ≡ noWord → ⊥) → Whole (e .word)) es
 unfolding allWhole
 each-whole [] t = tt
 each-whole (e ∷ es) t =
@@ -56,14 +56,14 @@ each-whole (e ∷ es) t =
     let h = and-left (a && b) (allWhole es) t in
     (λ n. (eqb-true _ _ (and-left a b h), ltb-true _ _ (and-right a b h)), each-whole es (and-right (a && b) (allWhole es) t))
 
-words-whole : allWhole words ≡ true
-unfolding allWhole words answering reading second until
+words-whole : allWhole wordTable ≡ true
+unfolding allWhole wordTable answering reading second until
 words-whole = refl
 
-pub whole-word : (v : List ℕ) (m : ℕ) → m ≤ length v → (number words (take (min m 18) v) ≡ nothing → ⊥) → min m 18 ≡ min (until (take m v)) 18
+pub whole-word : (v : List ℕ) (m : ℕ) → m ≤ length v → (wordNumber wordTable (take (min m 18) v) ≡ noWord → ⊥) → min m 18 ≡ min (until (take m v)) 18
 whole-word v m h n =
     let p = take (min m 18) v in
-    let w : Whole p = by-words p (λ x k. (k ≡ nothing → ⊥) → Whole x) words (each-whole words words-whole) (λ l z. absurd (z refl)) n in
+    let w : Whole p = by-words p (λ x k. (k ≡ noWord → ⊥) → Whole x) wordTable (each-whole wordTable words-whole) (λ l z. absurd (z refl)) n in
     let l : length p ≡ min m 18 = length-take-le (min m 18) v (omega arith) in
     let e : min m 18 ≡ m = omega (arith, w .1) in
     let u : until (take m v) ≡ m = rw (e) at (w .0 ∙ l) in
@@ -96,11 +96,11 @@ module _ (v : List ℕ) (m : ℕ) (inside : m ≤ length v) where
       (ap some (piece-in (m - suc (until name)) (drop (suc (until name)) v)))
 
   -- n is the number of the first piece
-  module _ (f n : ℕ) (e : f ≡ until name) (is : n ≡ number words (take f v)) where
+  module _ (f n : ℕ) (e : f ≡ until name) (is : n ≡ wordNumber wordTable (take f v)) where
     told : Tells (answer n (secondPiece (cut name))) (programOf name)
     unfolding programOf
     told =
-        let k : n ≡ number words (firstPiece (cut name)) = is ∙ ap (λ (x : ℕ). number words (take x v)) e ∙ ap (number words) (sym first-in) in
+        let k : n ≡ wordNumber wordTable (firstPiece (cut name)) = is ∙ ap (λ (x : ℕ). wordNumber wordTable (take x v)) e ∙ ap (wordNumber wordTable) (sym first-in) in
         rw k (tells (firstPiece (cut name)) (secondPiece (cut name)))
 
     pub window-first : n < 0x10000 → Tells (Found.Program (rowVariant n)) (programOf name)
@@ -114,13 +114,13 @@ module _ (v : List ℕ) (m : ℕ) (inside : m ≤ length v) where
         pub window-alone : m ≤ f → Tells (alone n) (programOf name)
         window-alone h = rw (second-none (omega arith), le-ltb n 0x10000 second, lt-ltb n 0x60000 read) at told
 
-        pub window-followed : f < m → (r : List ℕ) → r ≡ drop (suc f) v → (b k : ℕ) → b ≡ min (until (take (m - suc f) r)) 18 → k ≡ number words (take b r)
-            → Tells (followed n k) (programOf name)
+        pub window-followed : f < m → (r : List ℕ) → r ≡ drop (suc f) v → (b k : ℕ) → b ≡ min (until (take (m - suc f) r)) 18 → k ≡ wordNumber wordTable (take b r)
+            → Tells (withSecond n k) (programOf name)
         window-followed h r s b k c d =
             let q = take (until (take (m - suc f) r)) r in
             let g : secondPiece (cut name) ≡ some q =
             second-in (omega arith) ∙ rw (s, e)
             in
             let t : take b r ≡ take 18 q = short-piece (until (take (m - suc f) r)) b r c in
-            let j : k ≡ number words q = d ∙ ap (number words) t ∙ short-word q in
+            let j : k ≡ wordNumber wordTable q = d ∙ ap (wordNumber wordTable) t ∙ short-word q in
             rw j (rw (g, le-ltb n 0x10000 second, lt-ltb n 0x60000 read) at told)

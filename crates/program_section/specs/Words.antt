@@ -9,7 +9,8 @@ use borrow.Author.Tests.{eqb-true, eqb-false, ne-eqb, ltb-true}
 use lib.Dec.{eqb, ltb}
 use lib.ListN.{length, getD, take}
 use Rattle.model.specs.Bytes.{ascii, same, keep, push}
-use Rattle.program_section.specs.Same.{same-is, same-take, and-left, and-right}
+use Rattle.orders.specs.Keys.{same-is}
+use Rattle.program_section.specs.Same.{same-take, and-left, and-right}
 
 pub record Entry : Type 0 where
   pub word : List ℕ
@@ -101,54 +102,54 @@ second =
     ∷ entry "recvmsg6" 0x150CB0
     ∷ []
 
-unfoldable pub words : List Entry
-words = answering ++ (reading ++ second)
+unfoldable pub wordTable : List Entry
+wordTable = answering ++ (reading ++ second)
 
 -- the number of a word that the table lacks
-abbrev pub nothing : ℕ
-nothing = 0x200000
+abbrev pub noWord : ℕ
+noWord = 0x200000
 
-unfoldable pub number : List Entry → List ℕ → ℕ
-number [] p = nothing
-number (e ∷ es) p = cond (same (e .word) p) (e .number) (number es p)
+unfoldable pub wordNumber : List Entry → List ℕ → ℕ
+wordNumber [] p = noWord
+wordNumber (e ∷ es) p = cond (same (e .word) p) (e .number) (wordNumber es p)
 
 -- a word by its count of letters, its first and its last
-abbrev pub keyOf : List ℕ → ℕ
-keyOf p = length p * 0x10000 + getD p 0 0 * 0x100 + getD p (length p - 1) 0
+abbrev pub wordKey : List ℕ → ℕ
+wordKey p = length p * 0x10000 + getD p 0 0 * 0x100 + getD p (length p - 1) 0
 
 abbrev hasKey : ℕ → Entry → Bool
-hasKey k e = eqb (keyOf (e .word)) k
+hasKey k e = eqb (wordKey (e .word)) k
 
 -- only words of its key can be the same
 module _ (p : List ℕ) where
-  other-key : (w : List ℕ) (b : Bool) → same w p ≡ b → eqb (keyOf w) (keyOf p) ≡ false → b ≡ false
-  other-key w true e h = absurd (eqb-false (keyOf w) (keyOf p) h (ap keyOf (same-is w p e)))
+  other-key : (w : List ℕ) (b : Bool) → same w p ≡ b → eqb (wordKey w) (wordKey p) ≡ false → b ≡ false
+  other-key w true e h = absurd (eqb-false (wordKey w) (wordKey p) h (ap wordKey (same-is w p e)))
   other-key w false e h = refl
 
-  keep-by : (b : Bool) (e : Entry) (xs es : List Entry) → eqb (keyOf (e .word)) (keyOf p) ≡ b → number xs p ≡ number es p
-      → number (push b e xs) p ≡ cond (same (e .word) p) (e .number) (number es p)
-  unfolding number
+  keep-by : (b : Bool) (e : Entry) (xs es : List Entry) → eqb (wordKey (e .word)) (wordKey p) ≡ b → wordNumber xs p ≡ wordNumber es p
+      → wordNumber (push b e xs) p ≡ cond (same (e .word) p) (e .number) (wordNumber es p)
+  unfolding wordNumber
   keep-by true e xs es h k = rw k
   keep-by false e xs es h k = rw (other-key (e .word) (same (e .word) p) refl h) k
 
-  keep-key : (es : List Entry) → number (keep (hasKey (keyOf p)) es) p ≡ number es p
-  unfolding number keep
+  keep-key : (es : List Entry) → wordNumber (keep (hasKey (wordKey p)) es) p ≡ wordNumber es p
+  unfolding wordNumber keep
   keep-key [] = refl
-  keep-key (e ∷ es) = keep-by (hasKey (keyOf p) e) e (keep (hasKey (keyOf p)) es) es refl (keep-key es)
+  keep-key (e ∷ es) = keep-by (hasKey (wordKey p) e) e (keep (hasKey (wordKey p)) es) es refl (keep-key es)
 
-  pub by-key : (k : ℕ) → keyOf p ≡ k → number words p ≡ number (keep (hasKey k) words) p
-  by-key k e = sym (keep-key words) ∙ ap (λ (x : ℕ). number (keep (hasKey x) words) p) e
+  pub by-key : (k : ℕ) → wordKey p ≡ k → wordNumber wordTable p ≡ wordNumber (keep (hasKey k) wordTable) p
+  by-key k e = sym (keep-key wordTable) ∙ ap (λ (x : ℕ). wordNumber (keep (hasKey x) wordTable) p) e
 
 -- what the last arm of a `match` knows of its number, the arms from the last on
-abbrev pub NoneOf : ℕ → List ℕ → Type 0
-NoneOf k [] = Prim.Unit {0}
-NoneOf k (x ∷ xs) = NoneOf k xs × (k ≡ x → ⊥)
+abbrev pub NotAmong : ℕ → List ℕ → Type 0
+NotAmong k [] = Prim.Unit {0}
+NotAmong k (x ∷ xs) = NotAmong k xs × (k ≡ x → ⊥)
 
 abbrev isIn : ℕ → List ℕ → Bool
 isIn x [] = false
 isIn x (y ∷ ys) = cond (eqb x y) true (isIn x ys)
 
-none-of : (k x : ℕ) (xs : List ℕ) → NoneOf k xs → isIn x xs ≡ true → eqb x k ≡ false
+none-of : (k x : ℕ) (xs : List ℕ) → NotAmong k xs → isIn x xs ≡ true → eqb x k ≡ false
 none-of k x [] h t = absurd (false≢true t)
 none-of k x (y ∷ ys) h t = go (eqb x y) refl t (none-of k x ys (h .0))
   where
@@ -161,28 +162,28 @@ none-of k x (y ∷ ys) h t = go (eqb x y) refl t (none-of k x ys (h .0))
 -- whether all keys that pass a test are among these
 unfoldable pub allListed : (ℕ → Bool) → List ℕ → List Entry → Bool
 allListed t keys [] = true
-allListed t keys (e ∷ es) = cond (t (keyOf (e .word))) (isIn (keyOf (e .word)) keys) true && allListed t keys es
+allListed t keys (e ∷ es) = cond (t (wordKey (e .word))) (isIn (wordKey (e .word)) keys) true && allListed t keys es
 
-module _ (p : List ℕ) (t : ℕ → Bool) (keys : List ℕ) (k : ℕ) (is : keyOf p ≡ k) (passes : t k ≡ true) (none : NoneOf k keys) where
+module _ (p : List ℕ) (t : ℕ → Bool) (keys : List ℕ) (k : ℕ) (is : wordKey p ≡ k) (passes : t k ≡ true) (none : NotAmong k keys) where
   other : (x : ℕ) (b : Bool) → t x ≡ b → cond b (isIn x keys) true ≡ true → eqb x k ≡ false
   other x true e h = none-of k x keys none h
   other x false e h = ne-eqb x k (λ q. false≢true (sym e ∙ ap t q ∙ passes))
 
-  unlisted-in : (es : List Entry) → allListed t keys es ≡ true → number es p ≡ nothing
-  unfolding number allListed
+  unlisted-in : (es : List Entry) → allListed t keys es ≡ true → wordNumber es p ≡ noWord
+  unfolding wordNumber allListed
   unlisted-in [] h = refl
   unlisted-in (e ∷ es) h =
-      let x = keyOf (e .word) in
+      let x = wordKey (e .word) in
       let a = cond (t x) (isIn x keys) true in
       let b = allListed t keys es in
       rw (other-key p (e .word) (same (e .word) p) refl (rw is (other x (t x) refl (and-left a b h))), unlisted-in es (and-right a b h))
 
   -- a key that no word has
-  pub unlisted : allListed t keys words ≡ true → number words p ≡ nothing
-  unlisted h = unlisted-in words h
+  pub unlisted : allListed t keys wordTable ≡ true → wordNumber wordTable p ≡ noWord
+  unlisted h = unlisted-in wordTable h
 
-pub empty-word : (p : List ℕ) → length p ≡ 0 → number words p ≡ nothing
-unfolding number words answering reading second same
+pub empty-word : (p : List ℕ) → length p ≡ 0 → wordNumber wordTable p ≡ noWord
+unfolding wordNumber wordTable answering reading second same
 empty-word [] e = refl
 empty-word (x ∷ p) e = let z : ⊥ = omega arith in absurd z
 
@@ -191,13 +192,13 @@ unfoldable allShort : List Entry → Bool
 allShort [] = true
 allShort (e ∷ es) = ltb (length (e .word)) 18 && allShort es
 
-number-short : (p : List ℕ) (es : List Entry) → allShort es ≡ true → number es (take 18 p) ≡ number es p
-unfolding number allShort
+number-short : (p : List ℕ) (es : List Entry) → allShort es ≡ true → wordNumber es (take 18 p) ≡ wordNumber es p
+unfolding wordNumber allShort
 number-short p [] t = refl
 number-short p (e ∷ es) t =
     let a = ltb (length (e .word)) 18 in
     rw (same-take (e .word) p 18 (ltb-true _ _ (and-left a (allShort es) t)), number-short p es (and-right a (allShort es) t))
 
-pub short-word : (p : List ℕ) → number words (take 18 p) ≡ number words p
-unfolding words answering reading second allShort
-short-word p = number-short p words refl
+pub short-word : (p : List ℕ) → wordNumber wordTable (take 18 p) ≡ wordNumber wordTable p
+unfolding wordTable answering reading second allShort
+short-word p = number-short p wordTable refl

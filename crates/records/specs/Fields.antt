@@ -8,7 +8,7 @@ use Rattle.model.specs.Bytes.{part, little}
 use Rattle.model.specs.Deposit.{headOf, extent, sectionRecord, symbolRecord, relocationRecord}
 use Rattle.stream.specs.Stream.{byteAt, bytesAt}
 use Rattle.stream.specs.Laws.{getD-bytes, part-bytes}
-use Rattle.stream.specs.Fields.{little-first, little-four, little-split}
+use Rattle.stream.specs.Fields.{little-first, bytes-four, little-split}
 use Rattle.model.specs.declared.SectionIndex.{SectionIndex}
 use Rattle.model.specs.declared.SymbolIndex.{SymbolIndex}
 use Rattle.records.specs.Records.{extentAt}
@@ -152,7 +152,7 @@ module _ (d : List ℕ) (gap p : ℕ) where
       → extent (both % 4294967296) (both / 4294967296) ≡ extentAt d gap p
   extent-both both small e =
       let s : both ≡ little (bytesAt d gap p 4) + 4294967296 * little (bytesAt d gap (p + 4) 4) = e ∙ little-split d gap p 4 4 in
-      let l : little (bytesAt d gap p 4) < 4294967296 = omega (arith, little-four d gap p, small p, small (p + 1), small (p + 2), small (p + 3)) in
+      let l : little (bytesAt d gap p 4) < 4294967296 = omega (arith, bytes-four d gap p, small p, small (p + 1), small (p + 2), small (p + 3)) in
       let low : both % 4294967296 ≡ little (bytesAt d gap p 4) = omega arith in
       let high : both / 4294967296 ≡ little (bytesAt d gap (p + 4) 4) = omega arith in
       ap₂ extent low high

@@ -92,12 +92,12 @@ fn zero_row() -> Function
 }
 
 // Row i, and what is left behind it; past the last number a row of zeros.
-pub fn next_row(d: &[u8], t: &[u32], order: &[u32], i: usize, rows: Rows) -> Made
+pub fn next_row(d: &[u8], t: &[u32], symbols: &[u32], i: usize, rows: Rows) -> Made
     requires { ⌜ ReadableRows (now d) (now t) rows ⌝ }
-    ensures { λ r. ⌜ r ≡ madeOf (now (d .entry)) (now (t .entry)) (now (order .entry)) i rows ⌝ }
+    ensures { λ r. ⌜ r ≡ madeOf (now (d .entry)) (now (t .entry)) (now (symbols .entry)) i rows ⌝ }
 {
-    if i < rows.count && i < order.len() {
-        row(d, t, order[i], rows)
+    if i < rows.count && i < symbols.len() {
+        row(d, t, symbols[i], rows)
     } else {
         Made {
             row: zero_row(),
@@ -106,15 +106,15 @@ pub fn next_row(d: &[u8], t: &[u32], order: &[u32], i: usize, rows: Rows) -> Mad
     }
 }
 
-pub fn fill(functions: &mut [Function], d: &[u8], t: &[u32], order: &[u32], rows: Rows)
+pub fn fill(functions: &mut [Function], d: &[u8], t: &[u32], symbols: &[u32], rows: Rows)
     requires { ⌜ ReadableRows (now d) (now t) rows ⌝ }
-    ensures { λ _. ⌜ now (functions .exit) ≡ rowsMade (now (d .entry)) (now (t .entry)) (now (order .entry)) 0 rows (length (now (functions .entry))) ⌝ }
+    ensures { λ _. ⌜ now (functions .exit) ≡ rowsMade (now (d .entry)) (now (t .entry)) (now (symbols .entry)) 0 rows (length (now (functions .entry))) ⌝ }
 {
     let n = functions.len();
     let mut at = rows;
     let mut i = 0;
     while i < n {
-        let m = next_row(d, t, order, i, at);
+        let m = next_row(d, t, symbols, i, at);
         functions[i] = m.row;
         at = m.rest;
         i += 1;

@@ -20,7 +20,7 @@ use Rattle.object.specs.View.{sectionFrom, symbolFrom, sectionIn, symbolIn}
 use Rattle.bytes_maps.specs.Own.{ownBytes}
 use Rattle.catalogue_numbers.specs.Numbers.{homeAt, mapAt}
 use Rattle.rows_maps.specs.declared.Row.{Row}
-use Rattle.rows_maps.specs.Rows.{rowOf}
+use Rattle.rows_maps.specs.Rows.{mapRowOf}
 
 abbrev rowBy : ℕ → ℕ → ℕ → ℕ → ℕ → BpfMapDef → Row
 rowBy length section kind symbol own def = record { length = length; section = section; kind = kind; symbol = symbol; own = own; def = def }
@@ -36,8 +36,8 @@ module _ (d t : List ℕ) (v : View) where
 
   pub data-is : (n i : ℕ) (s : SectionRecord) → mapSourceOf (v .sections) n ≡ MapSource.Section i → s ≡ sectionAt d t v i
       → rowBy (s .name .length) (s .index .0) (kindNumber (kindOf (sectionFrom d t v s))) 0 (length (ownBytes d t v n)) (dataWords (kindOf (sectionFrom d t v s)) (s .size))
-      ≡ rowOf (mapAt d t v n)
-  unfolding rowOf dataMap sectionFrom
+      ≡ mapRowOf (mapAt d t v n)
+  unfolding mapRowOf dataMap sectionFrom
   data-is n i s m e = rw (m, e, length-bytes)
 
   module _ (j : ℕ) (y : SymbolRecord) (s : SectionRecord) (ey : y ≡ symbolAt d t v j) (es : s ≡ sectionAt d t v (homeAt d t v j)) where
@@ -47,8 +47,8 @@ module _ (d t : List ℕ) (v : View) where
 
     pub legacy-is : Within j
         → rowBy (y .name .length) (s .index .0) (kindNumber Kind.Maps) (y .index .0) 0 (wordsOf (bytesAt d (gapOf v) (v .at .bytes + s .bytes .at + y .address) (y .size)))
-        ≡ rowOf (legacyAt j)
-    unfolding rowOf legacyMap recordOf sectionFrom symbolFrom
+        ≡ mapRowOf (legacyAt j)
+    unfolding mapRowOf legacyMap recordOf sectionFrom symbolFrom
     legacy-is w =
         let b : SymbolRecord = symbolAt d t v j in
         let x : SectionRecord = sectionAt d t v (homeAt d t v j) in

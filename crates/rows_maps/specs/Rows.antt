@@ -15,8 +15,8 @@ use Rattle.catalogue_laws.specs.Placed.{each-longer, rowAt, placed-sets}
 use Rattle.catalogue_numbers.specs.Numbers.{mapAt}
 use Rattle.rows_maps.specs.declared.Row.{Row}
 
-unfoldable pub rowOf : Map → Row
-rowOf m =
+unfoldable pub mapRowOf : Map → Row
+mapRowOf m =
     record {
       length = length (m .name);
       section = m .section .0;
@@ -28,12 +28,12 @@ rowOf m =
 
 -- a row that is a map's, and whose lengths leave room for sums
 pub record Read (m : Map) (r : Row) : Type 0 where
-  pub row : r ≡ rowOf m
+  pub row : r ≡ mapRowOf m
   pub name-short : r .length < 2 ^ 32
   pub own-short : r .own < 2 ^ 32
 
-abbrev pub words : BpfMapDef → List ℕ
-words w =
+abbrev pub sevenWords : BpfMapDef → List ℕ
+sevenWords w =
     getD (w .words) 0 0
     ∷ getD (w .words) 1 0
     ∷ getD (w .words) 2 0
@@ -48,10 +48,10 @@ front place own r = place ∷ r .length ∷ r .section ∷ r .kind ∷ r .symbol
 
 -- with its two places, and 13 zeros behind the words
 abbrev pub numbers : ℕ → ℕ → Row → List ℕ
-numbers place own r = front place own r ++ (words (r .def) ++ replicate 13 0)
+numbers place own r = front place own r ++ (sevenWords (r .def) ++ replicate 13 0)
 
-row-numbers : (a b : ℕ) (m : Map) → numbers a b (rowOf m) ≡ mapRow a b m
-unfolding rowOf mapRow
+row-numbers : (a b : ℕ) (m : Map) → numbers a b (mapRowOf m) ≡ mapRow a b m
+unfolding mapRowOf mapRow
 row-numbers a b m = refl
 
 row-length : (a b : ℕ) (m : Map) → length (mapRow a b m) ≡ 27
@@ -70,16 +70,16 @@ module _ (d t : List ℕ) (v : View) where
   ownOf n = mapOwn (mapAt d t v n)
 
   -- the row of the next number
-  module _ (order : List ℕ) (k : ℕ) (r : Row) (read : r ≡ rowOf (mapAt d t v (getD order k 0))) where
+  module _ (order : List ℕ) (k : ℕ) (r : Row) (read : r ≡ mapRowOf (mapAt d t v (getD order k 0))) where
     -- where the name and the own bytes behind its lie
     pub place-next : (at place : ℕ) → place ≡ at + length (each nameOf (take k order)) → k < length order
         → place + r .length ≡ at + length (each nameOf (take (k + 1) order))
-    unfolding rowOf
+    unfolding mapRowOf
     place-next at place e l = let g : r .length ≡ length (nameOf (getD order k 0)) = rw read in omega (arith, each-longer nameOf order 0 k l)
 
     pub own-next : (own place : ℕ) → place ≡ own + length (each ownOf (take k order)) → k < length order
         → place + r .own ≡ own + length (each ownOf (take (k + 1) order))
-    unfolding rowOf
+    unfolding mapRowOf
     own-next own place e l = let g : r .own ≡ length (ownOf (getD order k 0)) = rw read in omega (arith, each-longer ownOf order 0 k l)
 
     -- one row more, in a table whose front are those of k maps

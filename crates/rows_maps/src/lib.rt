@@ -11,7 +11,7 @@ ghost use Rattle.records.specs.Maps.{mapSourceOf};
 ghost use Rattle.records.specs.Readable.{Readable};
 ghost use Rattle.catalogue_numbers.specs.Fits.{MapFits};
 ghost use Rattle.catalogue_numbers.specs.Numbers.{mapAt};
-ghost use Rattle.rows_maps.specs.Rows.{Read, words, numbers, mapRows};
+ghost use Rattle.rows_maps.specs.Rows.{Read, sevenWords, numbers, mapRows};
 ghost use Rattle.rows_maps.specs.Maps.{legacyAt, Within};
 use bytes_maps::own_length;
 use lists::zero64;
@@ -108,7 +108,7 @@ fn map_row(d: &[u8], t: &[u32], v: View, n: u32) -> Row
 
 fn put_words(t: &mut [u64], i: usize, def: BpfMapDef)
     requires { ⌜ i + 7 ≤ length (now t) ⌝ }
-    ensures { λ r. ⌜ now (t .exit) ≡ sets (now (t .entry)) i (words def) ⌝ }
+    ensures { λ r. ⌜ now (t .exit) ≡ sets (now (t .entry)) i (sevenWords def) ⌝ }
 {
     let w = def.words;
     put7(
@@ -147,12 +147,12 @@ fn put_row(t: &mut [u64], i: usize, place: usize, own: usize, r: Row)
     zero64(&mut t[a..b]);
 }
 
-// The rows of the first n maps of `order`: their names lie one after the other from `at` on, their own bytes from `own` on.
+// The rows of the first n maps of `numbers`: their names lie one after the other from `at` on, their own bytes from `own` on.
 pub fn put_map_rows(
     d: &[u8],
     t: &[u32],
     v: View,
-    order: &[u32],
+    numbers: &[u32],
     n: usize,
     at: usize,
     own: usize,
@@ -160,23 +160,23 @@ pub fn put_map_rows(
 )
     requires { ⌜
         Readable (now d) (now t) v
-        × (n ≤ length (now order))
+        × (n ≤ length (now numbers))
         × (n < 2 ^ 20)
         × (at < 2 ^ 62)
         × (own < 2 ^ 62)
         × (n * 27 ≤ length (now out))
-        × ((k : ℕ) → k < n → MapFits (now d) (now t) v (getD (now order) k 0))
+        × ((k : ℕ) → k < n → MapFits (now d) (now t) v (getD (now numbers) k 0))
         ⌝ }
     ensures { λ r.
         ⌜
-        now (out .exit) ≡ mapRows (now (d .entry)) (now (t .entry)) v at own (take n (now (order .entry))) ++ drop (n * 27) (now (out .entry))
+        now (out .exit) ≡ mapRows (now (d .entry)) (now (t .entry)) v at own (take n (now (numbers .entry))) ++ drop (n * 27) (now (out .entry))
         ⌝ }
 {
     let mut place = at;
     let mut own_place = own;
     let mut k: usize = 0;
     while k < n {
-        let r = map_row(d, t, v, order[k]);
+        let r = map_row(d, t, v, numbers[k]);
         put_row(out, k * 27, place, own_place, r);
         place += r.length;
         own_place += r.own;

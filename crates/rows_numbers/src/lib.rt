@@ -33,20 +33,20 @@ fn store_row(numbers: &mut [u64], i: usize, f: Function)
 }
 
 // As many rows as the numbers have room for, and zeros behind.
-pub fn fill_rows(numbers: &mut [u64], d: &[u8], t: &[u32], order: &[u32], rows: Rows)
+pub fn fill_rows(numbers: &mut [u64], d: &[u8], t: &[u32], symbols: &[u32], rows: Rows)
     requires { ⌜ ReadableRows (now d) (now t) rows ⌝ }
     ensures { λ _.
         ⌜
         now (numbers .exit)
         ≡ filled 0 (length (now (numbers .entry)))
-        (flatRows (rowsMade (now (d .entry)) (now (t .entry)) (now (order .entry)) 0 rows (rowsIn (length (now (numbers .entry))))))
+        (flatRows (rowsMade (now (d .entry)) (now (t .entry)) (now (symbols .entry)) 0 rows (rowsIn (length (now (numbers .entry))))))
         ⌝ }
 {
     let n = numbers.len() / 7;
     let mut at = rows;
     let mut i = 0;
     while i < n {
-        let m = next_row(d, t, order, i, at);
+        let m = next_row(d, t, symbols, i, at);
         let row = m.row;
         store_row(numbers, i, row);
         at = m.rest;

@@ -22,8 +22,8 @@ use Rattle.program_section.specs.declared.Variant.{Variant}
 use Rattle.program_section.specs.Found.{variantIn}
 use Rattle.rows_programs.specs.declared.Row.{Row}
 
-unfoldable pub rowOf : Program → Row
-rowOf p =
+unfoldable pub programRowOf : Program → Row
+programRowOf p =
     record {
       length = length (p .name);
       number = variantOf (p .variant) .number;
@@ -36,8 +36,8 @@ rowOf p =
 abbrev numbers : ℕ → Row → List ℕ
 numbers place r = place ∷ r .length ∷ r .number ∷ r .first ∷ r .second ∷ r .section ∷ r .address ∷ []
 
-row-numbers : (a b : ℕ) (p : Program) → numbers a (rowOf p) ≡ programRow a b p
-unfolding rowOf programRow
+row-numbers : (a b : ℕ) (p : Program) → numbers a (programRowOf p) ≡ programRow a b p
+unfolding programRowOf programRow
 row-numbers a b p = refl
 
 row-length : (a b : ℕ) (p : Program) → length (programRow a b p) ≡ 7
@@ -56,15 +56,15 @@ module _ (d t : List ℕ) (v : View) where
   pub row-is : (j : ℕ) (y : SymbolRecord) (s : SectionRecord) (w : Variant) (r : Row) → y ≡ symbolAt d t v j → s ≡ sectionAt d t v (homeAt d t v j)
       → w ≡ variantIn (nameIn d v (s .name))
       → r ≡ record { length = y .name .length; number = w .number; first = w .first; second = w .second; section = s .index .0; address = y .address }
-      → r ≡ rowOf (programAt d t v j)
-  unfolding rowOf programOfSymbol sectionFrom symbolFrom
+      → r ≡ programRowOf (programAt d t v j)
+  unfolding programRowOf programOfSymbol sectionFrom symbolFrom
   row-is j y s w r ey es ew er = er ∙ rw (ew, es, ey, length-bytes)
 
   -- the row of the next number
-  module _ (order : List ℕ) (at k place : ℕ) (r : Row) (read : r ≡ rowOf (programAt d t v (getD order k 0))) (before : place ≡ at + length (each nameOf (take k order))) where
+  module _ (order : List ℕ) (at k place : ℕ) (r : Row) (read : r ≡ programRowOf (programAt d t v (getD order k 0))) (before : place ≡ at + length (each nameOf (take k order))) where
     -- where the name behind it lies
     pub place-next : k < length order → place + r .length ≡ at + length (each nameOf (take (k + 1) order))
-    unfolding rowOf
+    unfolding programRowOf
     place-next l = let g : r .length ≡ length (nameOf (getD order k 0)) = rw read in omega (arith, each-longer nameOf order 0 k l)
 
     -- one row more, in a table whose front are those of k programs

@@ -6,7 +6,7 @@ ghost use lib.ListN.{length, take, drop};
 ghost use lib.Seq.{sets};
 ghost use Rattle.catalogue_numbers.specs.Numbers.{programAt};
 ghost use Rattle.records.specs.Readable.{Readable};
-ghost use Rattle.rows_programs.specs.Rows.{rowOf, programRows};
+ghost use Rattle.rows_programs.specs.Rows.{programRowOf, programRows};
 use object_view::View;
 use program_section::variant_numbers;
 use records::gap;
@@ -28,7 +28,7 @@ struct Row {
 // The row of the program of symbol j.
 fn program_row(d: &[u8], t: &[u32], v: View, j: u32) -> Row
     requires { ⌜ Readable (now d) (now t) v ⌝ }
-    ensures { λ r. ⌜ (r ≡ rowOf (programAt (now (d .entry)) (now (t .entry)) v j)) × (r .length < 2 ^ 32) ⌝ }
+    ensures { λ r. ⌜ (r ≡ programRowOf (programAt (now (d .entry)) (now (t .entry)) v j)) × (r .length < 2 ^ 32) ⌝ }
 {
     let m = member_at(d, t, v, j);
     let y = m.symbol;
@@ -59,26 +59,26 @@ pub fn put7(t: &mut [u64], i: usize, a: u64, b: u64, c: u64, e: u64, f: u64, g: 
     t[i + 6] = k;
 }
 
-// The rows of the programs of the first n symbols of `order`, whose names lie one after the other from `at` on.
+// The rows of the programs of the first n symbols of `numbers`, whose names lie one after the other from `at` on.
 pub fn put_program_rows(
     d: &[u8],
     t: &[u32],
     v: View,
-    order: &[u32],
+    numbers: &[u32],
     n: usize,
     at: usize,
     out: &mut [u64],
 )
-    requires { ⌜ Readable (now d) (now t) v × (n ≤ length (now order)) × (n < 2 ^ 29) × (at < 2 ^ 62) × (n * 7 ≤ length (now out)) ⌝ }
+    requires { ⌜ Readable (now d) (now t) v × (n ≤ length (now numbers)) × (n < 2 ^ 29) × (at < 2 ^ 62) × (n * 7 ≤ length (now out)) ⌝ }
     ensures { λ r.
         ⌜
-        now (out .exit) ≡ programRows (now (d .entry)) (now (t .entry)) v at (take n (now (order .entry))) ++ drop (n * 7) (now (out .entry))
+        now (out .exit) ≡ programRows (now (d .entry)) (now (t .entry)) v at (take n (now (numbers .entry))) ++ drop (n * 7) (now (out .entry))
         ⌝ }
 {
     let mut place = at;
     let mut k: usize = 0;
     while k < n {
-        let r = program_row(d, t, v, order[k]);
+        let r = program_row(d, t, v, numbers[k]);
         put7(
             out,
             k * 7,

@@ -26,26 +26,26 @@ fn wide(x: usize) -> u64
     x as u64
 }
 
-// The rows of the first n sections of `order`, whose names lie one after the other from `at` on.
+// The rows of the first n sections of `numbers`, whose names lie one after the other from `at` on.
 pub fn put_section_rows(
     d: &[u8],
     t: &[u32],
     v: View,
-    order: &[u32],
+    numbers: &[u32],
     n: usize,
     at: usize,
     out: &mut [u64],
 )
-    requires { ⌜ (n ≤ length (now order)) × (n < 2 ^ 29) × (at < 2 ^ 62) × (n * 4 ≤ length (now out)) ⌝ }
+    requires { ⌜ (n ≤ length (now numbers)) × (n < 2 ^ 29) × (at < 2 ^ 62) × (n * 4 ≤ length (now out)) ⌝ }
     ensures { λ r.
         ⌜
-        now (out .exit) ≡ sectionRows (now (d .entry)) (now (t .entry)) v at (take n (now (order .entry))) ++ drop (n * 4) (now (out .entry))
+        now (out .exit) ≡ sectionRows (now (d .entry)) (now (t .entry)) v at (take n (now (numbers .entry))) ++ drop (n * 4) (now (out .entry))
         ⌝ }
 {
     let mut place = wide(at);
     let mut k: usize = 0;
     while k < n {
-        let s = section(d, t, v, order[k]);
+        let s = section(d, t, v, numbers[k]);
         let len = wide64(s.name.length);
         put4(out, k * 4, place, len, wide64(s.index.0), s.size);
         place += len;

@@ -11,12 +11,12 @@ use model::SectionIndex;
 use object_view::View;
 use record_keys::By;
 
-pub fn by_section(d: &[u8], t: &[u32], v: View, order: &mut [u32], tmp: &mut [u32])
-    requires { ⌜ (v .symbols ≤ 65536) × (length (now order) ≡ v .symbols) × (length (now tmp) ≡ v .symbols) ⌝ }
-    ensures { λ r. ⌜ now (order .exit) ≡ sorted (bySection (symbolIn (now (d .entry)) (now (t .entry)) v)) (upTo (v .symbols)) ⌝ }
+pub fn by_section(d: &[u8], t: &[u32], v: View, symbols: &mut [u32], tmp: &mut [u32])
+    requires { ⌜ (v .symbols ≤ 65536) × (length (now symbols) ≡ v .symbols) × (length (now tmp) ≡ v .symbols) ⌝ }
+    ensures { λ r. ⌜ now (symbols .exit) ≡ sorted (bySection (symbolIn (now (d .entry)) (now (t .entry)) v)) (upTo (v .symbols)) ⌝ }
 {
-    record_sort::count_up(order);
-    record_sort::sort(d, t, v, By::SymbolSection, order, tmp);
+    record_sort::count_up(symbols);
+    record_sort::sort(d, t, v, By::SymbolSection, symbols, tmp);
 }
 
 // Past the symbols of sections below k.
@@ -24,16 +24,16 @@ pub fn group_start(
     d: &[u8],
     t: &[u32],
     v: View,
-    order: &[u32],
+    symbols: &[u32],
     from: usize,
     k: SectionIndex,
 ) -> usize
-    requires { ⌜ (from ≤ length (now order)) ⌝ }
-    ensures { λ r. ⌜ Start (now (d .entry)) (now (t .entry)) v (now (order .entry)) from (k .0) r ⌝ }
+    requires { ⌜ (from ≤ length (now symbols)) ⌝ }
+    ensures { λ r. ⌜ Start (now (d .entry)) (now (t .entry)) v (now (symbols .entry)) from (k .0) r ⌝ }
 {
     let mut at = from;
-    while at < order.len() {
-        if records::symbol_section(d, t, v, order[at]).0 >= k.0 {
+    while at < symbols.len() {
+        if records::symbol_section(d, t, v, symbols[at]).0 >= k.0 {
             return at;
         }
         at += 1;
@@ -42,13 +42,20 @@ pub fn group_start(
 }
 
 // Past the symbols of section k.
-pub fn group_end(d: &[u8], t: &[u32], v: View, order: &[u32], from: usize, k: SectionIndex) -> usize
-    requires { ⌜ (from ≤ length (now order)) ⌝ }
-    ensures { λ r. ⌜ End (now (d .entry)) (now (t .entry)) v (now (order .entry)) from (k .0) r ⌝ }
+pub fn group_end(
+    d: &[u8],
+    t: &[u32],
+    v: View,
+    symbols: &[u32],
+    from: usize,
+    k: SectionIndex,
+) -> usize
+    requires { ⌜ (from ≤ length (now symbols)) ⌝ }
+    ensures { λ r. ⌜ End (now (d .entry)) (now (t .entry)) v (now (symbols .entry)) from (k .0) r ⌝ }
 {
     let mut at = from;
-    while at < order.len() {
-        if records::symbol_section(d, t, v, order[at]).0 != k.0 {
+    while at < symbols.len() {
+        if records::symbol_section(d, t, v, symbols[at]).0 != k.0 {
             return at;
         }
         at += 1;

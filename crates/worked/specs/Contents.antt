@@ -12,7 +12,7 @@ use Rattle.model.specs.declared.XdpAttachType.{XdpAttachType}
 use Rattle.model.specs.declared.ProgramSection.{ProgramSection}
 use Rattle.model.specs.declared.BpfInsn.{BpfInsn}
 use Rattle.model.specs.Catalogue.{Catalogue}
-use Rattle.worked.specs.Write.{Sec, Sym, Rel, text, plain, sized, atAddress, relocated, func, global, reloc, deposit}
+use Rattle.worked.specs.Write.{Sec, Sym, Rel, text, plainSection, sizedSection, atAddress, relocated, func, global, reloc, deposit}
 use Rattle.worked.specs.Run.{loaded, catalogueIn, insn, entry, program, function, words, dataMapOf, legacyMapOf, relocation}
 
 -- the eight bytes of an instruction that says x, and the instruction
@@ -32,16 +32,16 @@ record28 = 1 ∷ 0 ∷ 0 ∷ 0 ∷ 4 ∷ 0 ∷ 0 ∷ 0 ∷ 8 ∷ 0 ∷ 0 ∷ 0 �
 -- ---- Sections, licence and version
 
 -- every section but `.BTF.ext`, by name; of one name the later
-sections-listed : card (plain 1 "b" (1 ∷ []) ∷ plain 2 "a" [] ∷ plain 3 ".BTF.ext" [] ∷ sized 4 "b" 9 [] ∷ plain 5 "a0" [] ∷ plain 6 "" [] ∷ []) [] [] .sections ≡ entry "" 6 0 ∷ entry "a" 2 0 ∷ entry "a0" 5 0 ∷ entry "b" 4 9 ∷ []
+sections-listed : card (plainSection 1 "b" (1 ∷ []) ∷ plainSection 2 "a" [] ∷ plainSection 3 ".BTF.ext" [] ∷ sizedSection 4 "b" 9 [] ∷ plainSection 5 "a0" [] ∷ plainSection 6 "" [] ∷ []) [] [] .sections ≡ entry "" 6 0 ∷ entry "a" 2 0 ∷ entry "a0" 5 0 ∷ entry "b" 4 9 ∷ []
 unfolding loaded
 sections-listed = refl
 
 -- without its closing zero; bytes above 127 stay
-licence-kept : card (plain 1 "license" (71 ∷ 200 ∷ 0 ∷ []) ∷ plain 2 "license" (88 ∷ 0 ∷ []) ∷ []) [] [] .licence ≡ 71 ∷ 200 ∷ []
+licence-kept : card (plainSection 1 "license" (71 ∷ 200 ∷ 0 ∷ []) ∷ plainSection 2 "license" (88 ∷ 0 ∷ []) ∷ []) [] [] .licence ≡ 71 ∷ 200 ∷ []
 unfolding loaded
 licence-kept = refl
 
-version-big : catalogueIn (loaded (deposit 1 (plain 1 "version" (1 ∷ 2 ∷ 3 ∷ 4 ∷ []) ∷ []) [] []) [] false) .version ≡ KernelVersion.Version 16909060
+version-big : catalogueIn (loaded (deposit 1 (plainSection 1 "version" (1 ∷ 2 ∷ 3 ∷ 4 ∷ []) ∷ []) [] []) [] false) .version ≡ KernelVersion.Version 16909060
 unfolding loaded
 version-big = refl
 
@@ -98,7 +98,7 @@ not-rewritten = refl
 -- ---- Maps
 
 -- symbols of any kind, by name; short records are zero-filled, whatever byte follows them, and bytes past 28 unread
-legacy-maps : card (plain 3 "maps" (record28 ++ (9 ∷ [])) ∷ plain 4 "maps/27" (take 27 record28 ++ (255 ∷ [])) ∷ []) (func 1 3 "b" 0 29 ∷ global 2 3 "a" 8 20 ∷ global 3 4 "" 0 27 ∷ []) [] .maps
+legacy-maps : card (plainSection 3 "maps" (record28 ++ (9 ∷ [])) ∷ plainSection 4 "maps/27" (take 27 record28 ++ (255 ∷ [])) ∷ []) (func 1 3 "b" 0 29 ∷ global 2 3 "a" 8 20 ∷ global 3 4 "" 0 27 ∷ []) [] .maps
     ≡ legacyMapOf "" 4 3 (words 1 4 8 2 3 5 1)
     ∷ legacyMapOf "a" 3 2 (words 8 2 3 5 1 0 0)
     ∷ legacyMapOf "b" 3 1 (words 1 4 8 2 3 5 1)
@@ -107,7 +107,7 @@ unfolding loaded
 legacy-maps = refl
 
 -- by prefix, which wins over the text mark
-data-maps : card (text 3 ".data.x" (7 ∷ []) ∷ text 4 ".rodata.str" (8 ∷ []) ∷ sized 5 ".bss.y" 2 (9 ∷ []) ∷ []) [] [] .maps
+data-maps : card (text 3 ".data.x" (7 ∷ []) ∷ text 4 ".rodata.str" (8 ∷ []) ∷ sizedSection 5 ".bss.y" 2 (9 ∷ []) ∷ []) [] [] .maps
     ≡ dataMapOf ".bss.y" 5 Kind.Bss (words 2 4 2 1 0 0 0) (0 ∷ 0 ∷ [])
     ∷ dataMapOf ".data.x" 3 Kind.Data (words 2 4 1 1 0 0 0) (7 ∷ [])
     ∷ dataMapOf ".rodata.str" 4 Kind.Rodata (words 2 4 1 1 128 0 0) (8 ∷ [])
@@ -116,12 +116,12 @@ unfolding loaded
 data-maps = refl
 
 -- one name space: section order, then symbol order
-later-map : card (plain 1 "maps" record28 ∷ plain 2 ".data" (7 ∷ []) ∷ []) (global 1 1 ".data" 0 28 ∷ global 2 1 "m" 0 28 ∷ global 3 1 "m" 0 20 ∷ []) [] .maps ≡ dataMapOf ".data" 2 Kind.Data (words 2 4 1 1 0 0 0) (7 ∷ []) ∷ legacyMapOf "m" 1 3 (words 1 4 8 2 3 0 0) ∷ []
+later-map : card (plainSection 1 "maps" record28 ∷ plainSection 2 ".data" (7 ∷ []) ∷ []) (global 1 1 ".data" 0 28 ∷ global 2 1 "m" 0 28 ∷ global 3 1 "m" 0 20 ∷ []) [] .maps ≡ dataMapOf ".data" 2 Kind.Data (words 2 4 1 1 0 0 0) (7 ∷ []) ∷ legacyMapOf "m" 1 3 (words 1 4 8 2 3 0 0) ∷ []
 unfolding loaded
 later-map = refl
 
 -- ---- Relocations: of text and program sections, by section and offset, the later of one offset
 
-relocations-kept : card (relocated 0 2 (text 1 ".text" []) ∷ relocated 1 3 (text 2 "xdp" (says 1)) ∷ relocated 0 4 (plain 3 ".data" []) ∷ []) (func 1 2 "p" 0 8 ∷ []) (reloc 8 1 64 ∷ reloc 0 2 32 ∷ reloc 8 3 0 ∷ reloc 0 4 1 ∷ []) .relocations ≡ relocation 1 0 32 2 ∷ relocation 1 8 64 1 ∷ relocation 2 0 1 4 ∷ relocation 2 8 0 3 ∷ []
+relocations-kept : card (relocated 0 2 (text 1 ".text" []) ∷ relocated 1 3 (text 2 "xdp" (says 1)) ∷ relocated 0 4 (plainSection 3 ".data" []) ∷ []) (func 1 2 "p" 0 8 ∷ []) (reloc 8 1 64 ∷ reloc 0 2 32 ∷ reloc 8 3 0 ∷ reloc 0 4 1 ∷ []) .relocations ≡ relocation 1 0 32 2 ∷ relocation 1 8 64 1 ∷ relocation 2 0 1 4 ∷ relocation 2 8 0 3 ∷ []
 unfolding loaded
 relocations-kept = refl

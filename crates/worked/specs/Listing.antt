@@ -8,8 +8,8 @@ use Rattle.model.specs.declared.Endianness.{Endianness}
 use Rattle.model.specs.declared.KernelVersion.{KernelVersion}
 use Rattle.model.specs.declared.Answer.{Answer}
 use Rattle.model.specs.Bytes.{ascii}
-use Rattle.worked.specs.Write.{text, plain, sized, atAddress, func, deposit}
-use Rattle.worked.specs.Run.{called, listed, lines, room, row}
+use Rattle.worked.specs.Write.{text, plainSection, sizedSection, atAddress, func, deposit}
+use Rattle.worked.specs.Run.{called, listed, lines, room, rowOfNumbers}
 
 -- 'Sections, at address 0: 1 `.text` of 16 bytes, 2 `xdp` text of 8, 3 `.bss` size 4; defined text symbols `helper` at 0 size 16 in 1, `pass` at 0 size 8 in 2'
 abbrev pub example : List ℕ
@@ -17,7 +17,7 @@ example =
     deposit 0
     (text 1 ".text" (183 ∷ 0 ∷ 0 ∷ 0 ∷ 0 ∷ 0 ∷ 0 ∷ 0 ∷ 149 ∷ 0 ∷ 0 ∷ 0 ∷ 0 ∷ 0 ∷ 0 ∷ 0 ∷ [])
     ∷ text 2 "xdp" (149 ∷ 0 ∷ 0 ∷ 0 ∷ 0 ∷ 0 ∷ 0 ∷ 0 ∷ [])
-    ∷ sized 3 ".bss" 4 []
+    ∷ sizedSection 3 ".bss" 4 []
     ∷ [])
     (func 1 1 "helper" 0 16 ∷ func 2 2 "pass" 0 8 ∷ [])
     []
@@ -52,7 +52,7 @@ example-lent : called example [] [] true (room 13 8 3 28 4 62) ≡ record {
   lent = record {
     sections = 3 ∷ 4 ∷ 3 ∷ 4 ∷ 7 ∷ 5 ∷ 1 ∷ 16 ∷ 12 ∷ 3 ∷ 2 ∷ 8 ∷ 0 ∷ [];
     programs = 15 ∷ 4 ∷ 6 ∷ 0 ∷ 0 ∷ 2 ∷ 0 ∷ 0 ∷ [];
-    functions = row 1 0 0 19 6 29 16 ∷ row 2 0 0 25 4 45 8 ∷ row 0 0 0 0 0 0 0 ∷ [];
+    functions = rowOfNumbers 1 0 0 19 6 29 16 ∷ rowOfNumbers 2 0 0 25 4 45 8 ∷ rowOfNumbers 0 0 0 0 0 0 0 ∷ [];
     maps = 53 ∷ 4 ∷ 3 ∷ 6 ∷ 0 ∷ 57 ∷ 4 ∷ 2 ∷ 4 ∷ 4 ∷ 1 ∷ 0 ∷ 0 ∷ 0 ∷ replicate 14 0;
     relocations = 0 ∷ 0 ∷ 0 ∷ 0 ∷ [];
     bytes = ascii "GPL.bss.textxdppasshelperpass" ++ (183 ∷ replicate 7 0 ++ (149 ∷ replicate 7 0 ++ (149 ∷ replicate 7 0))) ++ ascii ".bss" ++ replicate 5 0;
@@ -73,10 +73,10 @@ symbol-text = refl
 -- numbers of every length, a licence and a version, names that are empty
 other-text : listed (room 100 100 10 100 100 1000)
     (deposit 1
-    (plain 1 "license" (77 ∷ 73 ∷ 84 ∷ 0 ∷ [])
-    ∷ plain 2 "version" (0 ∷ 0 ∷ 1 ∷ 44 ∷ [])
+    (plainSection 1 "license" (77 ∷ 73 ∷ 84 ∷ 0 ∷ [])
+    ∷ plainSection 2 "version" (0 ∷ 0 ∷ 1 ∷ 44 ∷ [])
     ∷ atAddress 18446744073709551608 (text 10 ".text" (149 ∷ 0 ∷ 0 ∷ 0 ∷ 0 ∷ 0 ∷ 0 ∷ 0 ∷ []))
-    ∷ plain 4294967294 ".data" (1 ∷ 2 ∷ 3 ∷ [])
+    ∷ plainSection 4294967294 ".data" (1 ∷ 2 ∷ 3 ∷ [])
     ∷ [])
     (func 3 10 "" 18446744073709551608 8 ∷ [])
     [])

@@ -7,14 +7,14 @@ use Rattle.model.specs.declared.Answer.{Answer}
 use Rattle.model.specs.Object.{Patch}
 use Rattle.model.specs.Patching.{Verdict}
 use Rattle.model.specs.PatchList.{patchesOf}
-use Rattle.worked.specs.Write.{plain, sized, global, deposit}
+use Rattle.worked.specs.Write.{plainSection, sizedSection, global, deposit}
 use Rattle.worked.specs.Run.{loaded, called, catalogueIn, no, patch, room}
 
 -- `.data` of 8 bytes with `rate` at 2 of size 4, `.bss` of 4 with `count`, and a symbol of a section that is no map
 abbrev meter : List ℕ
 meter =
     deposit 0
-    (plain 1 ".data" (1 ∷ 2 ∷ 3 ∷ 4 ∷ 5 ∷ 6 ∷ 7 ∷ 8 ∷ []) ∷ sized 2 ".bss" 4 [] ∷ plain 3 "other" [] ∷ [])
+    (plainSection 1 ".data" (1 ∷ 2 ∷ 3 ∷ 4 ∷ 5 ∷ 6 ∷ 7 ∷ 8 ∷ []) ∷ sizedSection 2 ".bss" 4 [] ∷ plainSection 3 "other" [] ∷ [])
     (global 1 1 "rate" 2 4 ∷ global 2 2 "count" 0 4 ∷ global 3 3 "mark" 0 1 ∷ global 4 1 "past" 7 2 ∷ [])
     []
 

@@ -6,7 +6,7 @@ use Prim.Native.Nat.{ℕ}
 use lib.ListN.{replicate}
 use lib.Seq.{sets}
 use Rattle.model.specs.Patching.{Verdict}
-use Rattle.worked.specs.Write.{Sec, Sym, Rel, text, plain, relocated, func, global, absent, reloc, deposit}
+use Rattle.worked.specs.Write.{Sec, Sym, Rel, text, plainSection, relocated, func, global, absent, reloc, deposit}
 use Rattle.worked.specs.Run.{loaded, no}
 
 abbrev exit : List ℕ
@@ -27,27 +27,27 @@ order-2 : loaded (deposit 2 [] [] []) [] false ≡ no 2 0 0 0
 unfolding loaded
 order-2 = refl
 
-btf : said (plain 1 ".BTF" [] ∷ []) [] [] ≡ no 3 0 0 0
+btf : said (plainSection 1 ".BTF" [] ∷ []) [] [] ≡ no 3 0 0 0
 unfolding loaded
 btf = refl
 
 -- ---- 4. A relocation of the section in hand has no symbol as target.
 
-untargeted : said (plain 1 "a" [] ∷ relocated 1 1 (plain 4 "b" []) ∷ []) [] (reloc 0 absent 64 ∷ reloc 0 absent 64 ∷ []) ≡ no 4 4 0 0
+untargeted : said (plainSection 1 "a" [] ∷ relocated 1 1 (plainSection 4 "b" []) ∷ []) [] (reloc 0 absent 64 ∷ reloc 0 absent 64 ∷ []) ≡ no 4 4 0 0
 unfolding loaded
 untargeted = refl
 
 -- ---- 5 to 7. The licence and the version.
 
-licence-inner-zero : said (plain 3 "license" (97 ∷ 0 ∷ 98 ∷ []) ∷ []) [] [] ≡ no 5 3 0 0
+licence-inner-zero : said (plainSection 3 "license" (97 ∷ 0 ∷ 98 ∷ []) ∷ []) [] [] ≡ no 5 3 0 0
 unfolding loaded
 licence-inner-zero = refl
 
-licence-open : said (plain 3 "license" (71 ∷ 80 ∷ 76 ∷ []) ∷ []) [] [] ≡ no 6 3 0 0
+licence-open : said (plainSection 3 "license" (71 ∷ 80 ∷ 76 ∷ []) ∷ []) [] [] ≡ no 6 3 0 0
 unfolding loaded
 licence-open = refl
 
-version-3 : said (plain 2 "version" (1 ∷ 2 ∷ 3 ∷ []) ∷ []) [] [] ≡ no 7 2 0 0
+version-3 : said (plainSection 2 "version" (1 ∷ 2 ∷ 3 ∷ []) ∷ []) [] [] ≡ no 7 2 0 0
 unfolding loaded
 version-3 = refl
 
@@ -91,12 +91,12 @@ text-odd = refl
 
 -- ---- 16. A map record is under 20 bytes, or its pinning is neither 0 nor 1.
 
-record-19 : said (plain 6 "maps" (replicate 28 0) ∷ []) (global 4 6 "m" 0 19 ∷ []) [] ≡ no 16 6 4 0
+record-19 : said (plainSection 6 "maps" (replicate 28 0) ∷ []) (global 4 6 "m" 0 19 ∷ []) [] ≡ no 16 6 4 0
 unfolding loaded
 record-19 = refl
 
 -- ---- 17. A `.maps` section is present: by prefix, the first of two.
 
-btf-maps : said (plain 1 ".maps.x" [] ∷ plain 2 ".maps" [] ∷ []) [] [] ≡ no 17 1 0 0
+btf-maps : said (plainSection 1 ".maps.x" [] ∷ plainSection 2 ".maps" [] ∷ []) [] [] ≡ no 17 1 0 0
 unfolding loaded
 btf-maps = refl

@@ -99,6 +99,6 @@ abbrev pub room : ℕ → ℕ → ℕ → ℕ → ℕ → ℕ → Room
 room s p f m r b = record { sections = s; programs = p; functions = f; maps = m; relocations = r; bytes = b }
 
 -- a row of the function table: section, address, offset, the name's place and length, the code's place and length
-abbrev pub row : ℕ → ℕ → ℕ → ℕ → ℕ → ℕ → ℕ → FunctionRow
-row s a o n l c k =
+abbrev pub rowOfNumbers : ℕ → ℕ → ℕ → ℕ → ℕ → ℕ → ℕ → FunctionRow
+rowOfNumbers s a o n l c k =
     record { section = record { 0 = s }; address = a; offset = o; name = record { at = n; length = l }; code = record { at = c; length = k } }

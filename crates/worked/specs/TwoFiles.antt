@@ -4,7 +4,7 @@ use mathlib.Core.Bool.{false}
 use mathlib.Core.List.{List, [], _∷_, _++_}
 use Prim.Native.Nat.{ℕ}
 use Rattle.model.specs.declared.EbpfSectionKind.{EbpfSectionKind as Kind}
-use Rattle.worked.specs.Write.{text, plain, func, global, deposit}
+use Rattle.worked.specs.Write.{text, plainSection, func, global, deposit}
 use Rattle.worked.specs.Run.{loaded, listed, lines, catalogueIn, no, patch, words, dataMapOf, room}
 
 abbrev exit : List ℕ
@@ -14,7 +14,7 @@ exit = 149 ∷ 0 ∷ 0 ∷ 0 ∷ 0 ∷ 0 ∷ 0 ∷ 0 ∷ []
 abbrev first : List ℕ
 first =
     deposit 0
-    (text 1 ".text" (exit ++ (exit ++ (exit ++ exit))) ∷ text 2 "xdp" exit ∷ plain 3 ".rodata" (1 ∷ 0 ∷ 0 ∷ 0 ∷ []) ∷ [])
+    (text 1 ".text" (exit ++ (exit ++ (exit ++ exit))) ∷ text 2 "xdp" exit ∷ plainSection 3 ".rodata" (1 ∷ 0 ∷ 0 ∷ 0 ∷ []) ∷ [])
     (func 1 1 "third" 24 8 ∷ func 2 1 "first" 0 8 ∷ func 3 1 "second" 8 16 ∷ func 4 2 "meter" 0 8 ∷ global 5 3 "rate" 0 4 ∷ [])
     []
 
@@ -41,7 +41,7 @@ first-patched = refl
 abbrev second : List ℕ
 second =
     deposit 0
-    (text 1 "xdp" exit ∷ plain 2 ".data" (1 ∷ 0 ∷ 0 ∷ 0 ∷ []) ∷ plain 3 ".rodata" (2 ∷ 0 ∷ 0 ∷ 0 ∷ []) ∷ [])
+    (text 1 "xdp" exit ∷ plainSection 2 ".data" (1 ∷ 0 ∷ 0 ∷ 0 ∷ []) ∷ plainSection 3 ".rodata" (2 ∷ 0 ∷ 0 ∷ 0 ∷ []) ∷ [])
     (func 1 1 "meter" 0 8 ∷ global 2 2 "rate" 0 4 ∷ global 3 3 "rate" 0 4 ∷ [])
     []
 

@@ -33,12 +33,12 @@ pub record Rel : Type 0 where
 abbrev pub text : ℕ → String → List ℕ → Sec
 text i n d = record { index = i; mark = 1; name = ascii n; address = 0; size = length d; bytes = d; first = 0; count = 0 }
 
-abbrev pub plain : ℕ → String → List ℕ → Sec
-plain i n d = record { index = i; mark = 0; name = ascii n; address = 0; size = length d; bytes = d; first = 0; count = 0 }
+abbrev pub plainSection : ℕ → String → List ℕ → Sec
+plainSection i n d = record { index = i; mark = 0; name = ascii n; address = 0; size = length d; bytes = d; first = 0; count = 0 }
 
 -- a section of another size than its data
-abbrev pub sized : ℕ → String → ℕ → List ℕ → Sec
-sized i n z d = record { index = i; mark = 0; name = ascii n; address = 0; size = z; bytes = d; first = 0; count = 0 }
+abbrev pub sizedSection : ℕ → String → ℕ → List ℕ → Sec
+sizedSection i n z d = record { index = i; mark = 0; name = ascii n; address = 0; size = z; bytes = d; first = 0; count = 0 }
 
 abbrev pub atAddress : ℕ → Sec → Sec
 atAddress a s = record { index = s .index; mark = s .mark; name = s .name; address = a; size = s .size; bytes = s .bytes; first = s .first; count = s .count }

@@ -41,7 +41,7 @@ put-one-requires c κs =
     let a = b .args in (
       b .pre .0 .2,
       b .pre .0 .3 (l .loop .k) (omega arith),
-      next-room (partOf (a .part) (now (a .d)) (now (a .t)) (a .v)) (now (a .order)) (a .at) (l .loop .k) (l .loop .o) (l .loop .inv .2) (a .n) (length (l .loop .out)) (omega arith) (omega arith) (omega arith),
+      next-room (partOf (a .part) (now (a .d)) (now (a .t)) (a .v)) (now (a .numbers)) (a .at) (l .loop .k) (l .loop .o) (l .loop .inv .2) (a .n) (length (l .loop .out)) (omega arith) (omega arith) (omega arith),
     )
 
 add-k : tie.Need-add-k Inv-loop μ-loop
@@ -57,11 +57,11 @@ loop-again c =
     let a = b .args in
     let f = partOf (a .part) (now (a .d)) (now (a .t)) (a .v) in
     let p = c .before .before .put-one in
-    let room = next-room f (now (a .order)) (a .at) (l .loop .k) (l .loop .o) (l .loop .inv .2) (a .n) (length (now (a .out))) (omega arith) (omega arith) (omega arith) in (
+    let room = next-room f (now (a .numbers)) (a .at) (l .loop .k) (l .loop .o) (l .loop .inv .2) (a .n) (length (now (a .out))) (omega arith) (omega arith) (omega arith) in (
       omega arith,
       c .before .before .put-one .kept .1 .1 .1 .1 .1 .0 ∙ l .loop .inv .1,
-      next-end f (now (a .order)) (a .at) (l .loop .k) (l .loop .o) (l .loop .inv .2) (p .result) (omega arith) (p .ensures .0),
-      next-laid f (now (a .order)) (a .at) (l .loop .k) (l .loop .o) (l .loop .inv .2) (p .result) (omega arith) (p .ensures .0) (now (a .out)) (l .loop .out) _
+      next-end f (now (a .numbers)) (a .at) (l .loop .k) (l .loop .o) (l .loop .inv .2) (p .result) (omega arith) (p .ensures .0),
+      next-laid f (now (a .numbers)) (a .at) (l .loop .k) (l .loop .o) (l .loop .inv .2) (p .result) (omega arith) (p .ensures .0) (now (a .out)) (l .loop .out) _
           (omega (arith, room)) (l .loop .inv .3) (p .ensures .1),
     )
 

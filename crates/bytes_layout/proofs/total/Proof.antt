@@ -48,7 +48,7 @@ loop-again c =
     let l = c .before .before .before in
     let b = l .before .before .before .before in
     let a = b .args in
-    let g = each-longer (partOf (a .part) (now (a .d)) (now (a .t)) (a .v)) (now (a .order)) 0 (l .loop .k) (omega arith) in
+    let g = each-longer (partOf (a .part) (now (a .d)) (now (a .t)) (a .v)) (now (a .numbers)) 0 (l .loop .k) (omega arith) in
     (omega arith, omega (arith, c .part-length .ensures), omega (arith, g, c .part-length .ensures))
 
 returns : tie.Need-returns Inv-loop μ-loop

@@ -2,7 +2,7 @@
 use Prim.Native.Nat.{_+_, _*_}
 use denote.Ref.{now}
 use lib.ListN.{getD}
-use Rattle.elf_records.specs.Elf.{kindOf, definitionOf, num, entryAt, symbolSectionAt, elfSymbol}
+use Rattle.elf_records.specs.Elf.{kindOfInfo, definitionOf, num, entryAt, symbolSectionAt, elfSymbol}
 use mathlib.Core.Path.{_≡_, _∙_}
 use borrow.Author.Needs.{needs}
 use Rattle.elf_records.proofs.symbol.Statement.{statement}
@@ -60,9 +60,9 @@ returns c =
     let s = c .before .before .before .before .before .before .before .before .before .size .ensures .0 in
     let s₂ = c .before .before .before .before .before .before .before .before .size2 .ensures .0 in
     let home = c .before .before .before .before .before .before .before .symbol-section .ensures in
-    let kind : c .before .before .before .before .before .kind .result ≡ kindOf (getD d (p + 4) 0) = c .before .before .before .before .before .kind .ensures ∙ rw (c .before .before .before .before .before .before .u8-at .ensures, s, s₂) in
+    let kind : c .before .before .before .before .before .kind .result ≡ kindOfInfo (getD d (p + 4) 0) = c .before .before .before .before .before .kind .ensures ∙ rw (c .before .before .before .before .before .before .u8-at .ensures, s, s₂) in
     let bytes : c .before .u64-at .result ≡ num d v (p + 16) 8 = c .before .u64-at .ensures ∙ rw (s, s₂) in
-    let definition : c .definition .result ≡ definitionOf (kindOf (getD d (p + 4) 0)) (symbolSectionAt d v (a .i)) = c .definition .ensures ∙ rw (kind, home) in
+    let definition : c .definition .result ≡ definitionOf (kindOfInfo (getD d (p + 4) 0)) (symbolSectionAt d v (a .i)) = c .definition .ensures ∙ rw (kind, home) in
     λ k. record {
       index = record { 0 = c .before .before .before .before .sum .ensures k };
       section = home k;

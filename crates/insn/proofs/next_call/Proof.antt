@@ -45,7 +45,7 @@ use denote.Triple.Spec.{Meets, tripleOf}
 use denote.Triple.Table.{entered, cited}
 use denote.Triple.Walked.{says, Stays, stay-dropped, walkOf, goes-dropped, Walks, ends-at, walked, walk-meets}
 use denote.Exit.{yes}
-use Rattle.insn.specs.Reading.{left, nextOf, passedOver, nextCall, read-on, search-ends, search-goes-on}
+use Rattle.insn.specs.Reading.{instructionsFrom, nextOf, passedOver, nextCall, read-on, search-ends, search-goes-on}
 use Rattle.insn.specs.declared.Instructions.{Instructions}
 use Rattle.insn.specs.declared.Next.{Next}
 use Rattle.insn.proofs.Instructions as T
@@ -133,7 +133,7 @@ module _ {M : Type 1} (𝓤 : URA M) (H : Heap 𝓤) (A : Atoms 𝓤) (W : Given
   Token = ‵ (flft κ q) ⊛ ‵ ftrue
 
   abbrev answer : ℕ
-  answer = nextCall (left ys n) n
+  answer = nextCall (instructionsFrom ys n) n
 
   abbrev vals : List Val × (List Val × Unit {0})
   vals = (v ∷ [], (vint w64 n ∷ [], tt))
@@ -159,8 +159,8 @@ module _ {M : Type 1} (𝓤 : URA M) (H : Heap 𝓤) (A : Atoms 𝓤) (W : Given
   goes-next : (k : ℕ) → ent 𝓤 (⋆ 𝓤 H A (‵ (Own k) ∷ Token ∷ [])) (OfNext 𝓤 H A mem run .pre (to-next k))
   goes-next k = qed W (‵ (Own k) ∷ Token ∷ []) ∵ nothing ! $ move ! (1 ∷ 0 ∷ []) $ fjoin ! $ move ! (1 ∷ 0 ∷ []) $ join ! $ frame ! $ done !
 
-  next-said : (k : ℕ) (t : Next) → ent 𝓤 (ensured 𝓤 H A next.ended (next.clauses 𝓤 H A mem run) (κ, tt) (reader k, tt) tt t) (fact 𝓤 (t ≡ nextOf (left ys k)))
-  next-said k t = exE 𝓤 _ (λ ws. snd∗ 𝓤 (sem 𝓤 H A (lasts next.ended (κ, tt) (reader k, tt) ws)) (fact 𝓤 (t ≡ nextOf (left ys k))))
+  next-said : (k : ℕ) (t : Next) → ent 𝓤 (ensured 𝓤 H A next.ended (next.clauses 𝓤 H A mem run) (κ, tt) (reader k, tt) tt t) (fact 𝓤 (t ≡ nextOf (instructionsFrom ys k)))
+  next-said k t = exE 𝓤 _ (λ ws. snd∗ 𝓤 (sem 𝓤 H A (lasts next.ended (κ, tt) (reader k, tt) ws)) (fact 𝓤 (t ≡ nextOf (instructionsFrom ys k))))
 
   abbrev to-over : Next → Val → OfOver 𝓤 H A mem run .Ghost
   to-over t u = ((tt, tt, tt, (t, tt), (u ∷ [], tt)), tt)
@@ -182,7 +182,7 @@ module _ {M : Type 1} (𝓤 : URA M) (H : Heap 𝓤) (A : Atoms 𝓤) (W : Given
 
   -- the loop's states: the slots that the reader has reached, from which the search finds what the whole one finds
   abbrev State : Type 0
-  State = (k : ℕ) × IsReader k × (nextCall (left ys k) k ≡ answer)
+  State = (k : ℕ) × IsReader k × (nextCall (instructionsFrom ys k) k ≡ answer)
 
   abbrev Nearer : State → State → Type 0
   Nearer t u = length ys / 8 - t .0 < length ys / 8 - u .0
@@ -193,7 +193,7 @@ module _ {M : Type 1} (𝓤 : URA M) (H : Heap 𝓤) (A : Atoms 𝓤) (W : Given
   typed : (u : State) → Holds (hasTy (T′.mir erased) (mach (u .0))) × WT (mach (u .0))
   typed u = LL.lawful (T.the-type αᵉ) (T′.the-laws αᵉ) 𝓤 H A W .typed (reader (u .0)) _ (u .1) .0
 
-  module _ (u : State) (on : passedOver (nextOf (left ys (u .0))) ≡ true) where
+  module _ (u : State) (on : passedOver (nextOf (instructionsFrom ys (u .0))) ≡ true) where
     inside : u .0 < length ys / 8
     inside = read-on ys (u .0) on
 
@@ -236,7 +236,7 @@ module _ {M : Type 1} (𝓤 : URA M) (H : Heap 𝓤) (A : Atoms 𝓤) (W : Given
         -- [what `next` asks; what the reader owns; _7; …; _0; …]
         calls-at ! (fmOf 𝓤 H (W .laws) 𝓣) (OfNext 𝓤 H A mem run) known-next (to-next (u .0)) (and-then ! (load ! (from ! (stop !)) (look ! 4 refl)) (no-more !)) (λ w.
         use1 W (later (some (λ (t : Next). (Token ⊛ ‵ (S.the-row .own t (w ∷ []))) ⊛ raw (ensured 𝓤 H A next.ended (next.clauses 𝓤 H A mem run) (κ, tt) (reader (u .0), tt) tt t)))) (id⊢ 𝓤 _) $ await ! tt $ pick ! (λ t.
-        split ! $ move ! (1 ∷ []) $ use1 W (raw (fact 𝓤 (t ≡ nextOf (left ys (u .0))))) (next-said (u .0) t) $ heard ! (t ≡ nextOf (left ys (u .0))) (λ e. split ! $ move ! (1 ∷ []) $
+        split ! $ move ! (1 ∷ []) $ use1 W (raw (fact 𝓤 (t ≡ nextOf (instructionsFrom ys (u .0))))) (next-said (u .0) t) $ heard ! (t ≡ nextOf (instructionsFrom ys (u .0))) (λ e. split ! $ move ! (1 ∷ []) $
         -- [what it returned; the token; what the reader owns; _7; …; _0; …]
         peeks ! S.the-row (Is S.the-row) (shows 𝓤 H A S.the-row) t (w ∷ []) (λ is. land ! (from ! (stop !)) (init ! 7 refl (EL.lawful S.the-type S′.the-laws 𝓤 H A W tt .typed t _ is .0)) $ drop ! $
         use0 W (raw (OfOver 𝓤 H A mem run .pre (to-over t w))) (goes-over t w is) $
@@ -271,7 +271,7 @@ module _ {M : Type 1} (𝓤 : URA M) (H : Heap 𝓤) (A : Atoms 𝓤) (W : Given
         by ! (exits (u .0) (typed u .1 .1 .0 .fits) (sym (search-ends ys (u .0) (told t y e e′ ∙ fails y met)) ∙ u .2)))))))))))
       where
         -- what the test asks
-        told : (t : Next) (y : Bool) → t ≡ nextOf (left ys (u .0)) → y ≡ passedOver t → passedOver (nextOf (left ys (u .0))) ≡ y
+        told : (t : Next) (y : Bool) → t ≡ nextOf (instructionsFrom ys (u .0)) → y ≡ passedOver t → passedOver (nextOf (instructionsFrom ys (u .0))) ≡ y
         told t y e e′ = sym (e′ ∙ ap passedOver e)
 
         tells : (w : Val) → Is (B (κ, tt)) (reader (u .0 + 1)) (w ∷ []) → w ∷ [] ≡ mach (u .0 + 1) ∷ []

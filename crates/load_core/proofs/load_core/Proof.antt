@@ -44,7 +44,7 @@ load-sized-requires c κs =
     let a = z .args in
     let v = c .before .before .before .before .before .before .before .before .opened2 .given in
     let room = rw (v .1) at (z .pre .1) in
-    (open-view (now (a .d)) (now (a .t)) (a .opened) (v .0 .0) (z .pre .0) (v .1), lent-length (now (a .order)) _ _ (c .before .before .before .before .before .before .size .ensures .0) room)
+    (open-view (now (a .d)) (now (a .t)) (a .opened) (v .0 .0) (z .pre .0) (v .1), lent-length (now (a .symbols)) _ _ (c .before .before .before .before .before .before .size .ensures .0) room)
 
 same-length : tie.Need-same-length
 same-length c = search needs
@@ -68,7 +68,7 @@ returns c =
     let k = c .before .before .before .before .before .before .before .before .before .before .refuse in
     let room = lentRoom (length (now (a .sections))) (length (now (a .programs))) (a .rows) (length (now (a .maps))) (length (now (a .relocations))) (length (now (a .bytes))) in
     refused-loads (now (a .d)) (now (a .t)) room (k .last .1 .0) (k .last .1 .1 .0) (k .last .1 .1 .1 .0) (k .last .1 .1 .1 .1 .0) (k .last .1 .1 .1 .1 .1 .0) [] (q .0 .0) _ (k .result)
-    (ap (λ o. outcomeIn room (verdictIn (now (a .d)) (now (a .t)) o (now (a .entries)) (now (a .patches)) (a .rewrite))) (q .1)) (k .ensures .0) (k .ensures .1) (k .ensures .2) (k .ensures .3) (k .ensures .4) (k .ensures .5) (now (a .order))
+    (ap (λ o. outcomeIn room (verdictIn (now (a .d)) (now (a .t)) o (now (a .entries)) (now (a .patches)) (a .rewrite))) (q .1)) (k .ensures .0) (k .ensures .1) (k .ensures .2) (k .ensures .3) (k .ensures .4) (k .ensures .5) (now (a .symbols))
 
 same-length-6 : tie.Need-same-length-6
 same-length-6 c = search needs

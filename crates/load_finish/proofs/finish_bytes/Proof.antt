@@ -11,7 +11,7 @@ use Rattle.model.specs.PatchList.{patchesOf}
 use Rattle.records.specs.View.{gapOf}
 use Rattle.stream.specs.Stream.{place, byteAt}
 use Rattle.object.specs.View.{objectIn}
-use Rattle.bytes_layout.specs.Held.{inside}
+use Rattle.bytes_layout.specs.Held.{parts-inside}
 use Rattle.bytes_layout.specs.Parts.{catalogue}
 use Rattle.load_finish.specs.Finished.{code-before, functions-encoded, behind-filled, own-there, all-finished, long-done}
 use borrow.Author.Needs.{needs}
@@ -31,7 +31,7 @@ patch-bytes-requires c κs =
     let small : (i : ℕ) → byteAt d (gapOf (a .v)) i < 256 = λ i. omega (arith, c .before .before .before .before .before .before .before .before .shared-slice-known .given (place (gapOf (a .v)) i)) in
     let enc = functions-encoded d (now (a .t)) (a .v) (z .pre .0) (z .pre .1) small in
     let l = behind-filled (bytesOf k) (now (a .out)) (a .places .end) (q .end) (z .pre .5) in
-    let w = inside k in (
+    let w = parts-inside k in (
       z .pre .4,
       z .pre .2,
       omega (arith, q .own, q .end, w .own),
@@ -45,7 +45,7 @@ rewrite-code-requires c κs =
     let a = z .args in
     let q = z .pre .3 in
     let k = catalogue (now (a .d)) (now (a .t)) (a .v) in
-    let w = inside k in
+    let w = parts-inside k in
     let l = behind-filled (bytesOf k) (now (a .out)) (a .places .end) (q .end) (z .pre .5) in
     (omega (arith, q .code, q .maps, code-before k), omega (arith, q .maps, q .end, w .maps, c .before .before .before .patch-bytes .kept .1 .1 .1 .1 .1 .1 .1 .1 .1 .1 .0, l .2))
 

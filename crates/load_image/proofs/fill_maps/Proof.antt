@@ -4,7 +4,7 @@ use mathlib.Core.List.{List}
 use Prim.Native.Nat.{ℕ, _*_}
 use native.Mathlib.Omega.{arith}
 use denote.Ref.{now}
-use Rattle.bytes_layout.specs.Held.{inside}
+use Rattle.bytes_layout.specs.Held.{parts-inside}
 use Rattle.bytes_layout.specs.Parts.{catalogue}
 use Rattle.load_image.specs.Filled.{clearedFrom}
 use Rattle.load_image.specs.Tables.{all-maps, maps-filled}
@@ -17,8 +17,8 @@ put-map-rows-requires c κs =
     let z = c .before .before .before .before .before in
     let a = z .args in
     let at = z .pre .5 in
-    let i = inside (catalogue (now (a .d)) (now (a .t)) (a .v)) in
-    (z .pre .0, z .pre .2, omega (arith, z .pre .3), omega (arith, at .maps, at .small, i .maps), omega (arith, at .own, at .small, i .own), z .pre .6, all-maps (now (a .d)) (now (a .t)) (a .v) (a .n) (now (a .order)) (z .pre .2) (now (a .out)) (z .pre .0) (z .pre .1) (z .pre .4))
+    let i = parts-inside (catalogue (now (a .d)) (now (a .t)) (a .v)) in
+    (z .pre .0, z .pre .2, omega (arith, z .pre .3), omega (arith, at .maps, at .small, i .maps), omega (arith, at .own, at .small, i .own), z .pre .6, all-maps (now (a .d)) (now (a .t)) (a .v) (a .n) (now (a .numbers)) (z .pre .2) (now (a .out)) (z .pre .0) (z .pre .1) (z .pre .4))
 
 mul-clear-from : tie.Need-mul-clear-from
 mul-clear-from c = search needs
@@ -35,7 +35,7 @@ returns c =
     let a = z .args in
     c .before .before .clear-from .ensures
     ∙ ap (λ (t : List ℕ). clearedFrom t (a .n * 27)) (c .before .before .before .before .before .before .put-map-rows .ensures)
-    ∙ maps-filled (now (a .d)) (now (a .t)) (a .v) (a .n) (now (a .order)) (z .pre .2) (now (a .out)) (z .pre .0) (z .pre .1) (a .places .maps) (a .places .own) (z .pre .4) (z .pre .5 .maps) (z .pre .5 .own) (z .pre .6)
+    ∙ maps-filled (now (a .d)) (now (a .t)) (a .v) (a .n) (now (a .numbers)) (z .pre .2) (now (a .out)) (z .pre .0) (z .pre .1) (a .places .maps) (a .places .own) (z .pre .4) (z .pre .5 .maps) (z .pre .5 .own) (z .pre .6)
 
 pub fill-maps-spec : {M : Type 1} → statement M
 fill-maps-spec =

@@ -4,7 +4,7 @@ use mathlib.Core.List.{List}
 use Prim.Native.Nat.{ℕ, _*_}
 use native.Mathlib.Omega.{arith}
 use denote.Ref.{now}
-use Rattle.bytes_layout.specs.Held.{inside}
+use Rattle.bytes_layout.specs.Held.{parts-inside}
 use Rattle.bytes_layout.specs.Parts.{catalogue}
 use Rattle.load_image.specs.Filled.{clearedFrom}
 use Rattle.load_image.specs.Tables.{programs-filled}
@@ -17,7 +17,7 @@ put-program-rows-requires c κs =
     let z = c .before .before .before .before .before in
     let a = z .args in
     let at = z .pre .5 in
-    (z .pre .0, z .pre .2, omega (arith, z .pre .3), omega (arith, at .programs, at .small, inside (catalogue (now (a .d)) (now (a .t)) (a .v)) .programs), z .pre .6)
+    (z .pre .0, z .pre .2, omega (arith, z .pre .3), omega (arith, at .programs, at .small, parts-inside (catalogue (now (a .d)) (now (a .t)) (a .v)) .programs), z .pre .6)
 
 mul-clear-from : tie.Need-mul-clear-from
 mul-clear-from c = search needs
@@ -34,7 +34,7 @@ returns c =
     let a = z .args in
     c .before .before .clear-from .ensures
     ∙ ap (λ (t : List ℕ). clearedFrom t (a .n * 7)) (c .before .before .before .before .before .before .put-program-rows .ensures)
-    ∙ programs-filled (now (a .d)) (now (a .t)) (a .v) (a .n) (now (a .order)) (z .pre .2) (now (a .out)) (z .pre .0) (z .pre .1) (a .places .programs) (z .pre .4) (z .pre .5 .programs) (z .pre .6)
+    ∙ programs-filled (now (a .d)) (now (a .t)) (a .v) (a .n) (now (a .numbers)) (z .pre .2) (now (a .out)) (z .pre .0) (z .pre .1) (a .places .programs) (z .pre .4) (z .pre .5 .programs) (z .pre .6)
 
 pub fill-programs-spec : {M : Type 1} → statement M
 fill-programs-spec =

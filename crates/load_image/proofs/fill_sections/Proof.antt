@@ -4,7 +4,7 @@ use mathlib.Core.List.{List}
 use Prim.Native.Nat.{ℕ, _*_}
 use native.Mathlib.Omega.{arith}
 use denote.Ref.{now}
-use Rattle.bytes_layout.specs.Held.{inside}
+use Rattle.bytes_layout.specs.Held.{parts-inside}
 use Rattle.bytes_layout.specs.Parts.{catalogue}
 use Rattle.load_image.specs.Filled.{clearedFrom}
 use Rattle.load_image.specs.Tables.{sections-filled}
@@ -17,7 +17,7 @@ put-section-rows-requires c κs =
     let z = c .before .before .before .before .before in
     let a = z .args in
     let at = z .pre .3 in
-    (z .pre .0, omega (arith, z .pre .1), omega (arith, at .sections, at .small, inside (catalogue (now (a .d)) (now (a .t)) (a .v)) .sections), z .pre .4)
+    (z .pre .0, omega (arith, z .pre .1), omega (arith, at .sections, at .small, parts-inside (catalogue (now (a .d)) (now (a .t)) (a .v)) .sections), z .pre .4)
 
 mul-clear-from : tie.Need-mul-clear-from
 mul-clear-from c = search needs
@@ -34,7 +34,7 @@ returns c =
     let a = z .args in
     c .before .before .clear-from .ensures
     ∙ ap (λ (t : List ℕ). clearedFrom t (a .n * 4)) (c .before .before .before .before .before .before .put-section-rows .ensures)
-    ∙ sections-filled (now (a .d)) (now (a .t)) (a .v) (a .n) (now (a .order)) (z .pre .0) (now (a .out)) (a .places .sections) (z .pre .2) (z .pre .3 .sections) (z .pre .4)
+    ∙ sections-filled (now (a .d)) (now (a .t)) (a .v) (a .n) (now (a .numbers)) (z .pre .0) (now (a .out)) (a .places .sections) (z .pre .2) (z .pre .3 .sections) (z .pre .4)
 
 pub fill-sections-spec : {M : Type 1} → statement M
 fill-sections-spec =

@@ -18,7 +18,7 @@ finish-bytes-requires c κs =
       g .ok,
       z .pre .1,
       g .at,
-      patch-ready (now (a .d)) (now (a .t)) (a .v) (g .readable) (g .ok) (now (a .entries)) (now (a .m)) (now (a .order)) (now (a .by)) _ (a .plan .counts .maps) (a .plan .places .own)
+      patch-ready (now (a .d)) (now (a .t)) (a .v) (g .readable) (g .ok) (now (a .entries)) (now (a .m)) (now (a .symbols)) (now (a .by)) _ (a .plan .counts .maps) (a .plan .places .own)
           (g .held .maps) (g .held .maps-in) (g .at .own) (rw (k .kept .1 .1 .1 .1 .1 .1 .1 .1 .1 .1 .0) (k .ensures .2)) (z .pre .2),
       rw (k .kept .1 .1 .1 .1 .1 .1 .1 .1 .1 .1 .1 .1 .0) (k .ensures .4),
     )

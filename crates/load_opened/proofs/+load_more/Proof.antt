@@ -41,7 +41,7 @@ use denote.Exit.{yes}
 use Rattle.model.specs.declared.Answer.{Answer}
 use Rattle.model.specs.declared.Function.{Function}
 use Rattle.object_view.specs.declared.Opened.{Opened}
-use Rattle.load_object.specs.Done.{Open, symbolsOf}
+use Rattle.load_object.specs.Done.{Open, symbolCount}
 use Rattle.load_functions.proofs.Outer as outer
 use Rattle.load_functions.proofs.Outer.{AtMost}
 use Rattle.load_opened.proofs.OuterMore as outer-more
@@ -272,7 +272,7 @@ module _ {M : Type 1} (𝓤 : URA M) (H : Heap 𝓤) (A : Atoms 𝓤) (W : Given
   abbrev again : Self .Ghost
   again = (((κ₂, (κ₃, (κ₅, (κ₆, (κ₈, (κ₉, (κ₁₀, (κ₁₁, (κ₁₂, (κ₁₃, tt)))))))))), (q₂, (q₃, (q₅, (q₆, (q₈, (q₉, (q₁₀, (q₁₁, (q₁₂, (q₁₃, tt)))))))))), tt, ((tries - 1), (x₂, (x₃, (opened, (x₅, (x₆, (on, (x₈, (x₉, (x₁₀, (x₁₁, (x₁₂, (x₁₃, tt))))))))))))), (uint-vals w32 ((tries - 1)), (slice-vals x₂, (slice-vals x₃, (v₄ ∷ [], (slice-vals x₅, (slice-vals x₆, (bool-vals on, (slice-vals x₈, (slice-vals x₉, (slice-vals x₁₀, (slice-vals x₁₁, (slice-vals x₁₂, (slice-vals x₁₃, tt)))))))))))))), tt)
 
-  goes-some : symbolsOf opened ≤ 2048 → ent 𝓤 (⋆ 𝓤 H A (Toks ∷ Rest ∷ [])) (Some .pre at)
+  goes-some : symbolCount opened ≤ 2048 → ent 𝓤 (⋆ 𝓤 H A (Toks ∷ Rest ∷ [])) (Some .pre at)
   goes-some few = qed W (Toks ∷ Rest ∷ []) ∵ says ! (opens, few) $ done !
 
   goes-all : ent 𝓤 (⋆ 𝓤 H A (Toks ∷ Rest ∷ [])) (All .pre at)
@@ -345,7 +345,7 @@ module _ {M : Type 1} (𝓤 : URA M) (H : Heap 𝓤) (A : Atoms 𝓤) (W : Given
           free1 ! $ move ! (10 ∷ 11 ∷ []) $ free1 ! $ move ! (8 ∷ 9 ∷ []) $ free1 ! $ free0 ! $
           keep ! (1 ∷ 7 ∷ 6 ∷ 5 ∷ 4 ∷ 3 ∷ 2 ∷ 0 ∷ []) $ by ! (exits r w (zs .1 .1 .1 .1 .1 .1 .0) (zs .1 .1 .1 .1 .1 .1 .1 .0) (zs .1 .1 .1 .1 .1 .1 .1 .1 .0) (zs .1 .1 .1 .1 .1 .1 .1 .1 .1 .0) (zs .1 .1 .1 .1 .1 .1 .1 .1 .1 .1 .0) (zs .1 .1 .1 .1 .1 .1 .1 .1 .1 .1 .1 .0) f e₈ e₉ e₁₀ e₁₁ e₁₂ e₁₃))))))))))))
 
-      some-arm : (y : Bool) → y ≡ leb (symbolsOf opened) 2048 → T y → Sq W (Asked y) (runs C Λ Here some-body Then-back)
+      some-arm : (y : Bool) → y ≡ leb (symbolCount opened) 2048 → T y → Sq W (Asked y) (runs C Λ Here some-body Then-back)
       some-arm y e yes =
           assigns ! (addr ! (from ! (fld ! refl (hop ! (look-in ! 94 (sub ! 0 refl (whole !))) (stop !))))) (from ! (stop !)) (init ! 50 refl (tt, tt)) $
           assigns ! (agg ! (and-then ! (load ! (from ! (stop !)) (look ! 50 refl)) (and-then ! (load ! (from ! (fld ! refl (stop !))) (look-in ! 94 (sub ! 1 refl (whole !)))) (no-more !)))) (from ! (stop !)) (init ! 48 refl (tt, (tt, (record { fits = g₈ .0 }, tt)))) $
@@ -359,7 +359,7 @@ module _ {M : Type 1} (𝓤 : URA M) (H : Heap 𝓤) (A : Atoms 𝓤) (W : Given
           assigns ! (agg ! (and-then ! (load ! (from ! (stop !)) (look ! 34 refl)) (and-then ! (load ! (from ! (fld ! refl (stop !))) (look-in ! 86 (sub ! 1 refl (whole !)))) (no-more !)))) (from ! (stop !)) (init ! 32 refl (tt, (tt, (record { fits = g₁₂ .0 }, tt)))) $
           assigns ! (addr ! (from ! (fld ! refl (hop ! (look-in ! 84 (sub ! 0 refl (whole !))) (stop !))))) (from ! (stop !)) (init ! 30 refl (tt, tt)) $
           assigns ! (agg ! (and-then ! (load ! (from ! (stop !)) (look ! 30 refl)) (and-then ! (load ! (from ! (fld ! refl (stop !))) (look-in ! 84 (sub ! 1 refl (whole !)))) (no-more !)))) (from ! (stop !)) (init ! 28 refl (tt, (tt, (record { fits = g₁₃ .0 }, tt)))) $
-          use2 W (raw (Some .pre at)) (goes-some (most-of y (symbolsOf opened) 2048 e yes)) $ calls-at-last ! fm Some known-some at (and-then ! (load ! (from ! (stop !)) (look ! 105 refl)) (and-then ! (load ! (from ! (stop !)) (look ! 103 refl)) (and-then ! (load ! (from ! (stop !)) (look ! 101 refl)) (and-then ! (load ! (from ! (stop !)) (look ! 99 refl)) (and-then ! (load ! (from ! (stop !)) (look ! 97 refl)) (and-then ! (load ! (from ! (stop !)) (look ! 95 refl)) (and-then ! (load ! (from ! (stop !)) (look ! 47 refl)) (and-then ! (load ! (from ! (stop !)) (look ! 43 refl)) (and-then ! (load ! (from ! (stop !)) (look ! 39 refl)) (and-then ! (load ! (from ! (stop !)) (look ! 35 refl)) (and-then ! (load ! (from ! (stop !)) (look ! 31 refl)) (and-then ! (load ! (from ! (stop !)) (look ! 27 refl)) (no-more !))))))))))))) (λ w.
+          use2 W (raw (Some .pre at)) (goes-some (most-of y (symbolCount opened) 2048 e yes)) $ calls-at-last ! fm Some known-some at (and-then ! (load ! (from ! (stop !)) (look ! 105 refl)) (and-then ! (load ! (from ! (stop !)) (look ! 103 refl)) (and-then ! (load ! (from ! (stop !)) (look ! 101 refl)) (and-then ! (load ! (from ! (stop !)) (look ! 99 refl)) (and-then ! (load ! (from ! (stop !)) (look ! 97 refl)) (and-then ! (load ! (from ! (stop !)) (look ! 95 refl)) (and-then ! (load ! (from ! (stop !)) (look ! 47 refl)) (and-then ! (load ! (from ! (stop !)) (look ! 43 refl)) (and-then ! (load ! (from ! (stop !)) (look ! 39 refl)) (and-then ! (load ! (from ! (stop !)) (look ! 35 refl)) (and-then ! (load ! (from ! (stop !)) (look ! 31 refl)) (and-then ! (load ! (from ! (stop !)) (look ! 27 refl)) (no-more !))))))))))))) (λ w.
           use1 W (later (some (λ (r : Answer). (Toks ⊛ ‵ (F.the-row .own r (w ∷ []))) ⊛ raw (ensured 𝓤 H A load′.ended (outer.clausesOf 𝓤 H A W (AtMost 2048)) (κ₂, (κ₃, (κ₅, (κ₆, (κ₈, (κ₉, (κ₁₀, (κ₁₁, (κ₁₂, (κ₁₃, tt)))))))))) (x₂, (x₃, (opened, (x₅, (x₆, (on, (x₈, (x₉, (x₁₀, (x₁₁, (x₁₂, (x₁₃, tt)))))))))))) tt r)))) (id⊢ 𝓤 _) $
           await ! tt $ pick ! (λ r. split ! $ move ! (1 ∷ []) $ use1 W (some (λ (zs : Lasts). ‵ (lasts load′.ended (κ₂, (κ₃, (κ₅, (κ₆, (κ₈, (κ₉, (κ₁₀, (κ₁₁, (κ₁₂, (κ₁₃, tt)))))))))) (x₂, (x₃, (opened, (x₅, (x₆, (on, (x₈, (x₉, (x₁₀, (x₁₁, (x₁₂, (x₁₃, tt)))))))))))) zs) ⊛ raw (fact 𝓤 (Facts r (zs .1 .1 .1 .1 .1 .1 .0) (zs .1 .1 .1 .1 .1 .1 .1 .0) (zs .1 .1 .1 .1 .1 .1 .1 .1 .0) (zs .1 .1 .1 .1 .1 .1 .1 .1 .1 .0) (zs .1 .1 .1 .1 .1 .1 .1 .1 .1 .1 .0) (zs .1 .1 .1 .1 .1 .1 .1 .1 .1 .1 .1 .0))))) (id⊢ 𝓤 _) $
           pick ! (λ zs. split ! $ move ! (1 ∷ []) $ heard ! (Facts r (zs .1 .1 .1 .1 .1 .1 .0) (zs .1 .1 .1 .1 .1 .1 .1 .0) (zs .1 .1 .1 .1 .1 .1 .1 .1 .0) (zs .1 .1 .1 .1 .1 .1 .1 .1 .1 .0) (zs .1 .1 .1 .1 .1 .1 .1 .1 .1 .1 .0) (zs .1 .1 .1 .1 .1 .1 .1 .1 .1 .1 .1 .0)) (λ f.
@@ -437,8 +437,8 @@ module _ {M : Type 1} (𝓤 : URA M) (H : Heap 𝓤) (A : Atoms 𝓤) (W : Given
           -- the test is asked
           use0 W (raw (Test .pre to-test)) goes-test $ calls-at ! fm Test known-test to-test (and-then ! (load ! (from ! (stop !)) (look ! 103 refl)) (no-more !)) (λ v.
           use1 W (later (some (λ (y : Bool). (‵ ftrue ⊛ ‵ (Boolean .own y (v ∷ []))) ⊛ raw (ensured 𝓤 H A small.ended (testOf 𝓤 2048) tt (opened, tt) tt y)))) (id⊢ 𝓤 _) $ await ! tt $
-          pick ! (λ y. split ! $ move ! (1 ∷ []) $ use1 W (some (λ (zs : Unit {0} × Unit {0}). ‵ (lasts small.ended tt (opened, tt) zs) ⊛ raw (fact 𝓤 (y ≡ leb (symbolsOf opened) 2048)))) (id⊢ 𝓤 _) $
-          pick ! (λ zs. split ! $ drop ! $ heard ! (y ≡ leb (symbolsOf opened) 2048) (λ e.
+          pick ! (λ y. split ! $ move ! (1 ∷ []) $ use1 W (some (λ (zs : Unit {0} × Unit {0}). ‵ (lasts small.ended tt (opened, tt) zs) ⊛ raw (fact 𝓤 (y ≡ leb (symbolCount opened) 2048)))) (id⊢ 𝓤 _) $
+          pick ! (λ zs. split ! $ drop ! $ heard ! (y ≡ leb (symbolCount opened) 2048) (λ e.
           split ! $ drop ! $ peeks ! Boolean (Is Boolean) (shows 𝓤 H A Boolean) y (v ∷ []) (λ is. land ! (from ! (stop !)) (init ! 55 refl (bool-lawful 𝓤 H A W .typed y _ is .0)) $
           rewrite ! 55 (λ (u : Val). ‵ (fat fullShare tyBool l₂₈ 0 u)) (ap only is) refl $
           drop ! $ first ! $ branches ! (load ! (from ! (stop !)) (look ! 54 refl)) (λ yes. some-arm y e yes) (λ more-than. self-arm y left))))))

@@ -7,7 +7,7 @@ use lib.ListN.{length, getD, length-set}
 use lib.Seq.{slice}
 use Rattle.records.specs.declared.MapSource.{MapSource}
 use Rattle.records.specs.Maps.{mapNumberOf}
-use Rattle.catalogue_laws.specs.Groups.{map-start, map-in, Laid, laid-none, laid-next}
+use Rattle.catalogue_laws.specs.Groups.{map-start, map-in, LaidFrom, laid-none, laid-next}
 use Rattle.parse_maps.specs.Fault.{mapNumbers}
 use borrow.Author.Needs.{needs}
 use Rattle.parse_maps.proofs.map_numbers.Statement.{statement}
@@ -15,7 +15,7 @@ use Rattle.parse_maps.proofs.map_numbers.Tie as tie
 
 abbrev Inv-loop : tie.InvT-loop
 Inv-loop sections order lo hi out₀ w n₀ i₀ out n i =
-    (lo ≤ i) × (i ≤ hi) × (n ≡ w + (i - lo)) × (length out ≡ length out₀) × Laid w n (mapNumbers sections (slice lo i order)) out₀ out
+    (lo ≤ i) × (i ≤ hi) × (n ≡ w + (i - lo)) × (length out ≡ length out₀) × LaidFrom w n (mapNumbers sections (slice lo i order)) out₀ out
 
 abbrev μ-loop : tie.MeasureT-loop
 μ-loop sections order lo hi out₀ w n₀ i₀ out n i = hi - i
@@ -23,7 +23,7 @@ abbrev μ-loop : tie.MeasureT-loop
 loop-holds : tie.Need-loop-holds Inv-loop μ-loop
 loop-holds c =
     let a = c .before .before .args in
-    (omega arith, omega arith, omega arith, refl, laid-none (a .w) _ (now (a .out)) (map-start _ (a .lo) (now (a .order))))
+    (omega arith, omega arith, omega arith, refl, laid-none (a .w) _ (now (a .out)) (map-start _ (a .lo) (now (a .symbols))))
 
 mul-j : tie.Need-mul-j Inv-loop μ-loop
 mul-j c = search needs
@@ -55,7 +55,7 @@ loop-again : tie.Need-loop-again Inv-loop μ-loop
 loop-again c =
     let l = c .before .before .before in
     let a = l .before .before .before .args in
-    let js = now (a .order) in
+    let js = now (a .symbols) in
     let v = l .loop .inv in
     let i = l .loop .i in
     let from : a .lo ≤ i = v .0 in
@@ -76,7 +76,7 @@ returns c =
     let l = c .before in
     let a = l .before .before .before .args in
     let e : l .loop .i ≡ a .hi = omega arith in
-    let z : Laid (a .w) (l .loop .n) (mapNumbers (a .sections) (slice (a .lo) (a .hi) (now (a .order)))) (now (a .out)) (l .loop .out) = rw (← e) (l .loop .inv .4) in
+    let z : LaidFrom (a .w) (l .loop .n) (mapNumbers (a .sections) (slice (a .lo) (a .hi) (now (a .symbols)))) (now (a .out)) (l .loop .out) = rw (← e) (l .loop .inv .4) in
     (z .count, z .held)
 
 pub map-numbers-spec : {M : Type 1} → statement M

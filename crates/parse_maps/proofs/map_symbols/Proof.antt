@@ -52,16 +52,16 @@ returns c =
     let i = l .loop .i in
     let fault : f .map-fault .result ≡ mapFault d (a .v) (a .s) y = f .map-fault .ensures in
     let n : mapFault d (a .v) (a .s) y ≡ 0 → ⊥ = λ e. c .before .if1 .taken (fault ∙ e) in
-    let at : look (getD (now (a .order)) i 0) ≡ some (record { number = f .map-fault .result; section = a .s .index; symbol = y .index; entry = 0 }) =
+    let at : look (getD (now (a .symbols)) i 0) ≡ some (record { number = f .map-fault .result; section = a .s .index; symbol = y .index; entry = 0 }) =
     ap (refusalBy d (now (a .t)) (a .v) (a .s)) (sym (f .before .symbol .ensures))
     ∙ refusal-some d (now (a .t)) (a .v) (a .s) y n
     ∙ rw fault in
     c .of-symbol .ensures
     ∙ sym
     (ap checkedOf
-    (firstIn-map (mapSymbolRefusal (sectionFrom d (now (a .t)) (a .v) (a .s))) (symbolIn d (now (a .t)) (a .v)) (slice (a .lo) (a .hi) (now (a .order)))
+    (firstIn-map (mapSymbolRefusal (sectionFrom d (now (a .t)) (a .v) (a .s))) (symbolIn d (now (a .t)) (a .v)) (slice (a .lo) (a .hi) (now (a .symbols)))
     ∙ l .loop .inv .1
-    ∙ first-found look i (a .hi) (now (a .order)) _ (omega arith) (omega arith) at))
+    ∙ first-found look i (a .hi) (now (a .symbols)) _ (omega arith) (omega arith) at))
 
 add-i : tie.Need-add-i Inv-loop μ-loop
 add-i c = search needs
@@ -78,10 +78,10 @@ loop-again c =
     let d = now (a .d) in
     let look = refusalAt d (now (a .t)) (a .v) (a .s) in
     let i = l .loop .i in
-    let none-at : look (getD (now (a .order)) i 0) ≡ none =
+    let none-at : look (getD (now (a .symbols)) i 0) ≡ none =
     ap (refusalBy d (now (a .t)) (a .v) (a .s)) (sym (f .before .symbol .ensures))
     ∙ refusal-fine d (now (a .t)) (a .v) (a .s) y (sym (f .map-fault .ensures) ∙ c .if1 .left) in
-    (omega arith, l .loop .inv .1 ∙ first-next look i (a .hi) (now (a .order)) (omega arith) (omega arith) none-at)
+    (omega arith, l .loop .inv .1 ∙ first-next look i (a .hi) (now (a .symbols)) (omega arith) (omega arith) none-at)
 
 returns-2 : tie.Need-returns-2 Inv-loop μ-loop
 returns-2 c =
@@ -90,9 +90,9 @@ returns-2 c =
     let d = now (a .d) in
     sym
     (ap checkedOf
-    (firstIn-map (mapSymbolRefusal (sectionFrom d (now (a .t)) (a .v) (a .s))) (symbolIn d (now (a .t)) (a .v)) (slice (a .lo) (a .hi) (now (a .order)))
+    (firstIn-map (mapSymbolRefusal (sectionFrom d (now (a .t)) (a .v) (a .s))) (symbolIn d (now (a .t)) (a .v)) (slice (a .lo) (a .hi) (now (a .symbols)))
     ∙ l .loop .inv .1
-    ∙ first-end (refusalAt d (now (a .t)) (a .v) (a .s)) (l .loop .i) (a .hi) (now (a .order)) (omega arith)))
+    ∙ first-end (refusalAt d (now (a .t)) (a .v) (a .s)) (l .loop .i) (a .hi) (now (a .symbols)) (omega arith)))
 
 pub map-symbols-spec : {M : Type 1} → statement M
 map-symbols-spec =

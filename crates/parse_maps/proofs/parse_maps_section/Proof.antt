@@ -25,15 +25,15 @@ returns c =
     c .of-section .ensures
     ∙ sym
     (ap checkedOf
-    (refused-empty (now (a .d)) (now (a .t)) (a .v) (a .s) (slice (a .lo) (a .hi) (now (a .order))) (b .pre .1)
-    (slice-none (a .lo) (a .hi) (now (a .order)) (c .before .if1 .taken))))
+    (refused-empty (now (a .d)) (now (a .t)) (a .v) (a .s) (slice (a .lo) (a .hi) (now (a .symbols))) (b .pre .1)
+    (slice-none (a .lo) (a .hi) (now (a .symbols)) (c .before .if1 .taken))))
 
 returns-2 : tie.Need-returns-2
 returns-2 c =
     let b = c .before .before .before .before .before in
     let a = b .args in
-    let js = slice (a .lo) (a .hi) (now (a .order)) in
-    let l : 0 < length js = rw (length-slice (a .lo) (a .hi) (now (a .order)) (omega arith)) (omega arith) in
+    let js = slice (a .lo) (a .hi) (now (a .symbols)) in
+    let l : 0 < length js = rw (length-slice (a .lo) (a .hi) (now (a .symbols)) (omega arith)) (omega arith) in
     c .map-symbols .ensures ∙ sym (ap checkedOf (refused-symbols (now (a .d)) (now (a .t)) (a .v) (a .s) js (b .pre .1) l))
 
 pub parse-maps-section-spec : {M : Type 1} → statement M

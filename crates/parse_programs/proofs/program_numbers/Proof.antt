@@ -8,7 +8,7 @@ use native.Mathlib.Omega.{arith}
 use lib.ListN.{length, getD, length-set}
 use lib.Seq.{slice}
 use Rattle.model.specs.Symbols.{isProgram}
-use Rattle.catalogue_laws.specs.Groups.{keep-start, keep-in, keep-out, Laid, laid-none, laid-next}
+use Rattle.catalogue_laws.specs.Groups.{keep-start, keep-in, keep-out, LaidFrom, laid-none, laid-next}
 use Rattle.records.specs.View.{symbolAt}
 use Rattle.object.specs.Group.{programsAmong}
 use Rattle.object.specs.View.{symbolIn, namedText, program-by-record}
@@ -18,7 +18,7 @@ use Rattle.parse_programs.proofs.program_numbers.Tie as tie
 
 abbrev Inv-loop : tie.InvT-loop
 Inv-loop d t v order lo hi out₀ w n₀ i₀ out n i =
-    (lo ≤ i) × (i ≤ hi) × (n ≤ w + (i - lo)) × (length out ≡ length out₀) × Laid w n (programsAmong d t v (slice lo i order)) out₀ out
+    (lo ≤ i) × (i ≤ hi) × (n ≤ w + (i - lo)) × (length out ≡ length out₀) × LaidFrom w n (programsAmong d t v (slice lo i order)) out₀ out
 
 abbrev μ-loop : tie.MeasureT-loop
 μ-loop d t v order lo hi out₀ w n₀ i₀ out n i = hi - i
@@ -26,7 +26,7 @@ abbrev μ-loop : tie.MeasureT-loop
 loop-holds : tie.Need-loop-holds Inv-loop μ-loop
 loop-holds c =
     let a = c .before .before .before .before .args in
-    (omega arith, omega arith, omega arith, refl, laid-none (a .w) _ (now (a .out)) (keep-start _ (a .lo) (now (a .order))))
+    (omega arith, omega arith, omega arith, refl, laid-none (a .w) _ (now (a .out)) (keep-start _ (a .lo) (now (a .symbols))))
 
 mul-j : tie.Need-mul-j Inv-loop μ-loop
 mul-j c = search needs
@@ -61,7 +61,7 @@ loop-again c =
     let l = p .before .before .before .before in
     let a = l .before .before .before .before .before .args in
     let d = now (a .d) in
-    let js = now (a .order) in
+    let js = now (a .symbols) in
     let v = l .loop .inv in
     let i = l .loop .i in
     let from : a .lo ≤ i = v .0 in
@@ -95,7 +95,7 @@ returns c =
     let l = c .before in
     let a = l .before .before .before .before .before .args in
     let e : l .loop .i ≡ a .hi = omega arith in
-    let z : Laid (a .w) (l .loop .n) (programsAmong (now (a .d)) (now (a .t)) (a .v) (slice (a .lo) (a .hi) (now (a .order)))) (now (a .out)) (l .loop .out) =
+    let z : LaidFrom (a .w) (l .loop .n) (programsAmong (now (a .d)) (now (a .t)) (a .v) (slice (a .lo) (a .hi) (now (a .symbols)))) (now (a .out)) (l .loop .out) =
     rw (← e) (l .loop .inv .4) in
     (z .count, z .held)
 

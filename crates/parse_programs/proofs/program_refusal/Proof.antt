@@ -54,20 +54,20 @@ returns-2 c =
     let t = c .before .before in
     let m = t .before .before in
     let a = m .before .before .before .before .before .before .before .args in
-    let js = slice (a .lo) (a .hi) (now (a .order)) in
+    let js = slice (a .lo) (a .hi) (now (a .symbols)) in
     c .of-section2 .ensures
     ∙ sym
     (ap checkedOf
     (refused-empty (now (a .d)) (now (a .t)) (a .v) (a .s) _ (sym (read m) ∙ t .enum-told2 .given .1) js (m .before .before .before .before .before .before .before .pre .1)
-    (slice-none (a .lo) (a .hi) (now (a .order)) (c .before .if1 .taken))))
+    (slice-none (a .lo) (a .hi) (now (a .symbols)) (c .before .if1 .taken))))
 
 returns-3 : tie.Need-returns-3
 returns-3 c =
     let t = c .before .before in
     let m = t .before .before in
     let a = m .before .before .before .before .before .before .before .args in
-    let js = slice (a .lo) (a .hi) (now (a .order)) in
-    let l : 0 < length js = rw (length-slice (a .lo) (a .hi) (now (a .order)) (m .before .before .before .before .before .before .before .pre .0)) (omega (arith, c .before .if1 .left)) in
+    let js = slice (a .lo) (a .hi) (now (a .symbols)) in
+    let l : 0 < length js = rw (length-slice (a .lo) (a .hi) (now (a .symbols)) (m .before .before .before .before .before .before .before .pre .0)) (omega (arith, c .before .if1 .left)) in
     c .program-symbols .ensures
     ∙ sym
     (ap checkedOf

@@ -57,16 +57,16 @@ returns c =
     let i = l .loop .i in
     let fault : f .parse-program .result ≡ programFault (a .s) y = f .parse-program .ensures in
     let n : programFault (a .s) y ≡ 0 → ⊥ = λ e. c .before .if2 .taken (fault ∙ e) in
-    let at : look (getD (now (a .order)) i 0) ≡ some (record { number = f .parse-program .result; section = a .s .index; symbol = y .index; entry = 0 }) =
+    let at : look (getD (now (a .symbols)) i 0) ≡ some (record { number = f .parse-program .result; section = a .s .index; symbol = y .index; entry = 0 }) =
     ap (refusalBy d (now (a .t)) (a .v) (a .s)) (sym (p .before .symbol .ensures))
     ∙ refusal-some d (now (a .t)) (a .v) (a .s) y (sym (p .is-program .ensures) ∙ f .before .if1 .taken) n
     ∙ rw fault in
     c .of-symbol .ensures
     ∙ sym
     (ap checkedOf
-    (first-kept (programSymbolRefusal (sectionFrom d (now (a .t)) (a .v) (a .s))) (symbolIn d (now (a .t)) (a .v)) (λ j. isProgram (symbolIn d (now (a .t)) (a .v) j)) (slice (a .lo) (a .hi) (now (a .order)))
+    (first-kept (programSymbolRefusal (sectionFrom d (now (a .t)) (a .v) (a .s))) (symbolIn d (now (a .t)) (a .v)) (λ j. isProgram (symbolIn d (now (a .t)) (a .v) j)) (slice (a .lo) (a .hi) (now (a .symbols)))
     ∙ l .loop .inv .1
-    ∙ first-found look i (a .hi) (now (a .order)) _ (omega arith) (omega arith) at))
+    ∙ first-found look i (a .hi) (now (a .symbols)) _ (omega arith) (omega arith) at))
 
 add-i : tie.Need-add-i Inv-loop μ-loop
 add-i c = search needs
@@ -83,13 +83,13 @@ loop-again c =
     let d = now (a .d) in
     let look = refusalAt d (now (a .t)) (a .v) (a .s) in
     let i = l .loop .i in
-    let none-at : look (getD (now (a .order)) i 0) ≡ none =
+    let none-at : look (getD (now (a .symbols)) i 0) ≡ none =
     ap (refusalBy d (now (a .t)) (a .v) (a .s)) (sym (p .before .symbol .ensures))
     ∙ ⊎-elim
     (λ w. refusal-fine d (now (a .t)) (a .v) (a .s) y (sym (w .1 .ensures) ∙ w .2 .left))
     (λ w. refusal-other d (now (a .t)) (a .v) (a .s) y (sym (p .is-program .ensures) ∙ w .left))
     (c .if1 .came) in
-    (omega arith, l .loop .inv .1 ∙ first-next look i (a .hi) (now (a .order)) (omega arith) (omega arith) none-at)
+    (omega arith, l .loop .inv .1 ∙ first-next look i (a .hi) (now (a .symbols)) (omega arith) (omega arith) none-at)
 
 returns-2 : tie.Need-returns-2 Inv-loop μ-loop
 returns-2 c =
@@ -99,9 +99,9 @@ returns-2 c =
     let look = refusalAt d (now (a .t)) (a .v) (a .s) in
     sym
     (ap checkedOf
-    (first-kept (programSymbolRefusal (sectionFrom d (now (a .t)) (a .v) (a .s))) (symbolIn d (now (a .t)) (a .v)) (λ j. isProgram (symbolIn d (now (a .t)) (a .v) j)) (slice (a .lo) (a .hi) (now (a .order)))
+    (first-kept (programSymbolRefusal (sectionFrom d (now (a .t)) (a .v) (a .s))) (symbolIn d (now (a .t)) (a .v)) (λ j. isProgram (symbolIn d (now (a .t)) (a .v) j)) (slice (a .lo) (a .hi) (now (a .symbols)))
     ∙ l .loop .inv .1
-    ∙ first-end look (l .loop .i) (a .hi) (now (a .order)) (omega arith)))
+    ∙ first-end look (l .loop .i) (a .hi) (now (a .symbols)) (omega arith)))
 
 pub program-symbols-spec : {M : Type 1} → statement M
 program-symbols-spec =

@@ -38,7 +38,7 @@ returns c =
     let st = c .before .before .before .before .before .before .before .before .before .before .before .before .before .before .before .before .before in
     let a = st .args in
     c .before .before .before .before .sort .ensures
-    ∙ ap (sorted (byKey (keyOf By.SymbolAddress (now (a .d)) (now (a .t)) (a .v)))) (c .before .before .before .before .before .before .before .before .before .copy .ensures ∙ part-slice (a .lo) (a .hi) (now (a .order)) (st .pre .0) (st .pre .1))
+    ∙ ap (sorted (byKey (keyOf By.SymbolAddress (now (a .d)) (now (a .t)) (a .v)))) (c .before .before .before .before .before .before .before .before .before .copy .ensures ∙ part-slice (a .lo) (a .hi) (now (a .symbols)) (st .pre .0) (st .pre .1))
 
 pub by-address-spec : {M : Type 1} → statement M
 by-address-spec =

@@ -18,7 +18,7 @@ returns c =
     let f = n .before in
     let st = f .before .before .before .before .before in
     let a = st .args in
-    group-none (now (a .d)) (now (a .t)) (a .v) (a .s) (now (a .order)) (a .from) (f .group-start .result) (st .pre .1) (st .pre .2) (f .group-start .ensures) (sym (n .is-no-section .ensures) ∙ c .if1 .taken)
+    group-none (now (a .d)) (now (a .t)) (a .v) (a .s) (now (a .symbols)) (a .from) (f .group-start .result) (st .pre .1) (st .pre .2) (f .group-start .ensures) (sym (n .is-no-section .ensures) ∙ c .if1 .taken)
 
 group-end-requires : tie.Need-group-end-requires
 group-end-requires c κs = search needs
@@ -29,7 +29,7 @@ returns-2 c =
     let f = n .before in
     let st = f .before .before .before .before .before in
     let a = st .args in
-    group-some (now (a .d)) (now (a .t)) (a .v) (a .s) (now (a .order)) (a .from) (f .group-start .result) (st .pre .1) (st .pre .2) (f .group-start .ensures) (c .group-end .result)
+    group-some (now (a .d)) (now (a .t)) (a .v) (a .s) (now (a .symbols)) (a .from) (f .group-start .result) (st .pre .1) (st .pre .2) (f .group-start .ensures) (c .group-end .result)
     (sym (n .is-no-section .ensures) ∙ c .before .if1 .left) (c .group-end .ensures)
 
 pub group-of-spec : {M : Type 1} → statement M

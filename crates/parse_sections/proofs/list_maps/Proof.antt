@@ -1,5 +1,5 @@
 -- `parse_sections::list_maps` meets its contract: by the kind.
-use Rattle.parse_sections.specs.Lists.{mapsOf}
+use Rattle.parse_sections.specs.Lists.{mapNumbersOf}
 use Rattle.parse_sections.specs.Kinds.{other-kind, data-kind}
 use Rattle.model.specs.Contents.{isData}
 use Rattle.catalogue_laws.specs.Groups.{laid-none, laid-next}
@@ -37,7 +37,7 @@ same-length : tie.Need-same-length
 same-length c = search needs
 
 returns : tie.Need-returns
-unfolding mapsOf
+unfolding mapNumbersOf
 returns c =
     let n = c .before .before .map-numbers in
     rw (c .before .before .before .before .enum-told .given .1) (record { count = n .ensures .0; held = n .ensures .1 })
@@ -46,7 +46,7 @@ same-length-2 : tie.Need-same-length-2
 same-length-2 c = search needs
 
 returns-2 : tie.Need-returns-2
-unfolding mapsOf
+unfolding mapNumbersOf
 returns-2 c =
     let st = c .before .before .before .before in
     let a = st .args in
@@ -60,7 +60,7 @@ abbrev others : List ℕ
 others = 0 ∷ 2 ∷ 3 ∷ 7 ∷ 8 ∷ 9 ∷ 10 ∷ 11 ∷ []
 
 returns-3 : tie.Need-returns-3
-unfolding mapsOf
+unfolding mapNumbersOf
 returns-3 c =
     let a = c .before .before .before .args in
     let k = c .match .keys3 in

@@ -1,5 +1,5 @@
 -- `parse_sections::list_programs` meets its contract: by the kind.
-use Rattle.parse_sections.specs.Lists.{programsOf}
+use Rattle.parse_sections.specs.Lists.{programNumbersOf}
 use Rattle.parse_sections.specs.Candidates.{copied}
 use Rattle.parse_sections.specs.Grouped.{part-slice}
 use Rattle.parse_sections.specs.Kinds.{other-kind}
@@ -55,7 +55,7 @@ same-length : tie.Need-same-length
 same-length c = search needs
 
 returns : tie.Need-returns
-unfolding programsOf
+unfolding programNumbersOf
 returns c =
     let p = c .before .before in
     let st = p .before .before .before .before .before .before .before in
@@ -68,7 +68,7 @@ returns c =
     (copied (a .at) end xs (now (a .out)) _ (rw n) (ap (λ y. take (a .at) (now (a .out)) ++ (y ++ drop (end - a .at) (drop (a .at) (now (a .out))))) q))
 
 returns-2 : tie.Need-returns-2
-unfolding programsOf
+unfolding programNumbersOf
 returns-2 c =
     let a = c .before .before .before .args in
     laid-none (a .at) _ (now (a .out)) (rw (other-kind (0 ∷ 1 ∷ 2 ∷ 4 ∷ 5 ∷ 6 ∷ 7 ∷ 8 ∷ 9 ∷ 10 ∷ 11 ∷ []) Kind.Program (a .kind) tt (c .match .keys2)))

@@ -11,7 +11,7 @@ use Rattle.model.specs.SectionKind.{kindOf}
 use Rattle.records.specs.Records.{cursor, step-record, step-end}
 use Rattle.records.specs.View.{sectionAt}
 use Rattle.object.specs.View.{sectionFrom}
-use Rattle.parse_sections.specs.Candidates.{part-length, part-back}
+use Rattle.parse_sections.specs.Candidates.{part-length, length-part-back}
 use Rattle.parse_sections.specs.Grouped.{GroupOf, all-symbols}
 use Rattle.parse_sections.specs.Pass.{Going, Ahead, going-start, going-end, going-past, going-refused, going-ahead, going-room, going-next}
 use Rattle.parse_sections.proofs.parse_sections.Statement.{statement}
@@ -35,7 +35,7 @@ loop-holds : tie.Need-loop-holds Inv-loop μ-loop
 loop-holds c =
     let st = c .before .before .before .before .before .before .before .before .before .before in
     let a = st .args in
-    rw (c .new .ensures) (omega arith, refl, refl, refl, refl, going-start (now (a .d)) (now (a .t)) (a .v) (now (a .order)) (now (a .sections)) (now (a .programs)) (now (a .functions)) (now (a .maps)) _ _ (st .pre .7) (st .pre .8), refl)
+    rw (c .new .ensures) (omega arith, refl, refl, refl, refl, going-start (now (a .d)) (now (a .t)) (a .v) (now (a .symbols)) (now (a .sections)) (now (a .programs)) (now (a .functions)) (now (a .maps)) _ _ (st .pre .7) (st .pre .8), refl)
 
 next-requires : tie.Need-next-requires Inv-loop μ-loop
 next-requires c κs = search needs
@@ -58,7 +58,7 @@ below c = let m = moved c in omega (arith, m .0, m .2, c .before .before .before
 here : (c : tie.After-known-told Inv-loop μ-loop) →
     let l = c .before .before .before .before in
     let a = l .before .before .before .before .before .before .before .before .before .before .before .args in
-    Going (now (a .d)) (now (a .t)) (a .v) (now (a .order)) (l .loop .sections) (l .loop .programs) (l .loop .functions) (l .loop .maps) (c .before .i .given .0 .0) (l .loop .from) (l .loop .n)
+    Going (now (a .d)) (now (a .t)) (a .v) (now (a .symbols)) (l .loop .sections) (l .loop .programs) (l .loop .functions) (l .loop .maps) (c .before .i .given .0 .0) (l .loop .from) (l .loop .n)
 here c = rw (moved c .0) (c .before .before .before .before .loop .inv .5)
 
 section-requires : tie.Need-section-requires Inv-loop μ-loop
@@ -78,7 +78,7 @@ group-of-requires c κs =
 group-here : (c : tie.After-group-of Inv-loop μ-loop) →
     let l = c .before .before .before .before .before .before .before in
     let a = l .before .before .before .before .before .before .before .before .before .before .before .args in
-    GroupOf (now (a .d)) (now (a .t)) (a .v) (sectionAt (now (a .d)) (now (a .t)) (a .v) (c .before .before .before .before .i .given .0 .0)) (now (a .order)) (l .loop .from) (c .group-of .result .lo) (c .group-of .result .hi)
+    GroupOf (now (a .d)) (now (a .t)) (a .v) (sectionAt (now (a .d)) (now (a .t)) (a .v) (c .before .before .before .before .i .given .0 .0)) (now (a .symbols)) (l .loop .from) (c .group-of .result .lo) (c .group-of .result .hi)
 group-here c = rw (c .before .before .section .ensures) at (c .group-of .ensures)
 
 -- its end is within the symbols
@@ -86,7 +86,7 @@ few-here : (c : tie.After-group-of Inv-loop μ-loop) → c .group-of .result .hi
 few-here c =
     let st = c .before .before .before .before .before .before .before .before .before .before .before .before .before .before .before .before .before .before in
     let a = st .args in
-    omega (arith, c .group-of .ensures .within, all-symbols (now (a .d)) (now (a .t)) (a .v) (now (a .order)) (st .pre .1))
+    omega (arith, c .group-of .ensures .within, all-symbols (now (a .d)) (now (a .t)) (a .v) (now (a .symbols)) (st .pre .1))
 
 -- the lists have room for as many
 programs-here : (c : tie.After-group-of Inv-loop μ-loop) → c .group-of .result .hi ≤ length (c .before .before .before .before .before .before .before .loop .programs)
@@ -174,7 +174,7 @@ programs-kept : (c : tie.After-parse-section Inv-loop μ-loop) →
 programs-kept c =
     let f = c .before .before .before .before in
     let l = f .before .before .before .before .before .before .before in
-    part-back (f .group-of .result .lo) (f .group-of .result .hi - f .group-of .result .lo) (l .loop .programs) (c .parse-section .last .1 .1 .1 .1 .1 .1 .1 .1 .1 .0) (c .parse-section .kept .1 .1 .1 .1 .1 .1 .1 .1 .1 .0) ∙ l .loop .inv .2
+    length-part-back (f .group-of .result .lo) (f .group-of .result .hi - f .group-of .result .lo) (l .loop .programs) (c .parse-section .last .1 .1 .1 .1 .1 .1 .1 .1 .1 .0) (c .parse-section .kept .1 .1 .1 .1 .1 .1 .1 .1 .1 .0) ∙ l .loop .inv .2
 
 functions-kept : (c : tie.After-parse-section Inv-loop μ-loop) →
     let f = c .before .before .before .before in
@@ -196,7 +196,7 @@ maps-kept c =
     let l = f .before .before .before .before .before .before .before in
     let count = l .before .before .size .result in
     let k = count + f .group-of .result .lo in
-    part-back k (count + f .group-of .result .hi - k) (l .loop .maps) (c .parse-section .last .1 .1 .1 .1 .1 .1 .1 .1 .1 .1 .0) (c .parse-section .kept .1 .1 .1 .1 .1 .1 .1 .1 .1 .1 .0) ∙ l .loop .inv .4
+    length-part-back k (count + f .group-of .result .hi - k) (l .loop .maps) (c .parse-section .last .1 .1 .1 .1 .1 .1 .1 .1 .1 .1 .0) (c .parse-section .kept .1 .1 .1 .1 .1 .1 .1 .1 .1 .1 .0) ∙ l .loop .inv .4
 
 -- what is listed stands in them still
 going-here : (c : tie.After-parse-section Inv-loop μ-loop) →
@@ -206,7 +206,7 @@ going-here : (c : tie.After-parse-section Inv-loop μ-loop) →
     let lo = f .group-of .result .lo in
     let hi = f .group-of .result .hi in
     let count = l .before .before .size .result in
-    Going (now (a .d)) (now (a .t)) (a .v) (now (a .order)) (l .loop .sections) (take lo (l .loop .programs) ++ (c .parse-section .last .1 .1 .1 .1 .1 .1 .1 .1 .1 .0 ++ drop (hi - lo) (drop lo (l .loop .programs)))) (l .loop .functions)
+    Going (now (a .d)) (now (a .t)) (a .v) (now (a .symbols)) (l .loop .sections) (take lo (l .loop .programs) ++ (c .parse-section .last .1 .1 .1 .1 .1 .1 .1 .1 .1 .0 ++ drop (hi - lo) (drop lo (l .loop .programs)))) (l .loop .functions)
     (take (count + lo) (l .loop .maps) ++ (c .parse-section .last .1 .1 .1 .1 .1 .1 .1 .1 .1 .1 .0 ++ drop (count + hi - (count + lo)) (drop (count + lo) (l .loop .maps)))) (f .before .before .before .before .i .given .0 .0) (l .loop .from) (l .loop .n)
 going-here c =
     let f = c .before .before .before .before in
@@ -216,7 +216,7 @@ going-here c =
     let lo = f .group-of .result .lo in
     let count = l .before .before .size .result in
     let h = f .group-of .ensures .after in
-    going-past (now (a .d)) (now (a .t)) (a .v) (now (a .order)) (l .loop .sections) (l .loop .programs) (l .loop .functions) (l .loop .maps) (f .before .before .before .before .i .given .0 .0) (l .loop .from) (l .loop .n) (here (f .before .before .before)) (st .pre .1)
+    going-past (now (a .d)) (now (a .t)) (a .v) (now (a .symbols)) (l .loop .sections) (l .loop .programs) (l .loop .functions) (l .loop .maps) (f .before .before .before .before .i .given .0 .0) (l .loop .from) (l .loop .n) (here (f .before .before .before)) (st .pre .1)
     lo (count + lo) _ _ h (omega (arith, h, l .before .before .size .ensures .0, below (f .before .before .before)))
 
 enum-known-r : tie.Need-enum-known-r Inv-loop μ-loop
@@ -241,7 +241,7 @@ returns c =
     let l = f .before .before .before .before .before .before .before in
     let st = l .before .before .before .before .before .before .before .before .before .before .before in
     let a = st .args in
-    going-refused (now (a .d)) (now (a .t)) (a .v) (now (a .order)) (l .loop .sections) (l .loop .programs) (l .loop .functions) (l .loop .maps) (f .before .before .before .before .i .given .0 .0) (l .loop .from) (l .loop .n) (here (f .before .before .before)) (st .pre .1)
+    going-refused (now (a .d)) (now (a .t)) (a .v) (now (a .symbols)) (l .loop .sections) (l .loop .programs) (l .loop .functions) (l .loop .maps) (f .before .before .before .before .i .given .0 .0) (l .loop .from) (l .loop .n) (here (f .before .before .before)) (st .pre .1)
     (below (f .before .before .before)) (st .pre .6) (f .group-of .result .lo) (f .group-of .result .hi) (group-here f) (p .parse-section .result) _
     (rw (f .before .before .section .ensures) at (p .parse-section .ensures)) _ (c .before .r .given .1)
 
@@ -254,14 +254,14 @@ ahead : (c : tie.After-m Inv-loop μ-loop) →
     let f = p .before .before .before .before in
     let l = f .before .before .before .before .before .before .before in
     let a = l .before .before .before .before .before .before .before .before .before .before .before .args in
-    Ahead (now (a .d)) (now (a .t)) (a .v) (now (a .order)) (p .parse-section .last .1 .1 .1 .1 .1 .1 .1 .1 .1 .1 .1 .0 ++ drop (f .group-of .result .hi - 0) (l .loop .functions)) (f .before .before .before .before .i .given .0 .0) (f .group-of .result .hi) (l .loop .n .functions) (c .m .given .0 .0)
+    Ahead (now (a .d)) (now (a .t)) (a .v) (now (a .symbols)) (p .parse-section .last .1 .1 .1 .1 .1 .1 .1 .1 .1 .1 .1 .0 ++ drop (f .group-of .result .hi - 0) (l .loop .functions)) (f .before .before .before .before .i .given .0 .0) (f .group-of .result .hi) (l .loop .n .functions) (c .m .given .0 .0)
 ahead c =
     let p = c .before .before .before .before .before .before .before .before in
     let f = p .before .before .before .before in
     let l = f .before .before .before .before .before .before .before in
     let st = l .before .before .before .before .before .before .before .before .before .before .before in
     let a = st .args in
-    going-ahead (now (a .d)) (now (a .t)) (a .v) (now (a .order)) (l .loop .sections) (l .loop .programs) (l .loop .functions) (l .loop .maps) (f .before .before .before .before .i .given .0 .0) (l .loop .from) (l .loop .n) (here (f .before .before .before)) (st .pre .1)
+    going-ahead (now (a .d)) (now (a .t)) (a .v) (now (a .symbols)) (l .loop .sections) (l .loop .programs) (l .loop .functions) (l .loop .maps) (f .before .before .before .before .i .given .0 .0) (l .loop .from) (l .loop .n) (here (f .before .before .before)) (st .pre .1)
     (below (f .before .before .before)) (st .pre .6) (f .group-of .result .lo) (f .group-of .result .hi) (group-here f) (p .parse-section .result) _
     (rw (f .before .before .section .ensures) at (p .parse-section .ensures)) _ (functions-here f) (p .parse-section .kept .1 .1 .1 .1 .1 .1 .1 .1 .1 .1 .1 .0) (c .m .given .1)
 
@@ -274,7 +274,7 @@ list-others-requires c κs =
     let st = l .before .before .before .before .before .before .before .before .before .before .before in
     let a = st .args in
     let q = st .pre in
-    going-room (now (a .d)) (now (a .t)) (a .v) (now (a .order)) (l .loop .sections) _ (l .loop .functions) _ (f .before .before .before .before .i .given .0 .0) (l .loop .from) (l .loop .n) (going-here p) (st .pre .1)
+    going-room (now (a .d)) (now (a .t)) (a .v) (now (a .symbols)) (l .loop .sections) _ (l .loop .functions) _ (f .before .before .before .before .i .given .0 .0) (l .loop .from) (l .loop .n) (going-here p) (st .pre .1)
     (below (f .before .before .before)) (q .6) (f .group-of .result .lo) (f .group-of .result .hi) (group-here f) _ _ (ahead m)
     (omega (arith, l .loop .inv .1, q .2)) (rw (programs-kept p) (q .3)) (rw (maps-kept p) (q .5))
 
@@ -299,7 +299,7 @@ loop-again c =
       functions-kept p,
       x .1 .1 .1 .0 ∙ maps-kept p,
       rw (k .1, ← k .0)
-          (going-next (now (a .d)) (now (a .t)) (a .v) (now (a .order)) (l .loop .sections) _ (l .loop .functions) _ (f .before .before .before .before .i .given .0 .0) (l .loop .from) (l .loop .n) (going-here p) (st .pre .1)
+          (going-next (now (a .d)) (now (a .t)) (a .v) (now (a .symbols)) (l .loop .sections) _ (l .loop .functions) _ (f .before .before .before .before .i .given .0 .0) (l .loop .from) (l .loop .n) (going-here p) (st .pre .1)
           (below (f .before .before .before)) (st .pre .6) (f .group-of .result .lo) (f .group-of .result .hi) (group-here f) _ _ (ahead m)
           (f .before .kind-of .result) (o .list-others .result) _ _ _ e (o .list-others .ensures)),
       rw (k .1) (l .loop .inv .6),
@@ -327,7 +327,7 @@ returns-2 c =
     let a = st .args in
     let z = step-end (l .loop .c) (sym (c .before .before .next .ensures) ∙ c .enum-told .given .1) in
     let e : l .loop .c .at ≡ a .v .sections = omega (arith, z, l .loop .inv .0, l .loop .inv .6) in
-    going-end (now (a .d)) (now (a .t)) (a .v) (now (a .order)) (l .loop .sections) (l .loop .programs) (l .loop .functions) (l .loop .maps) (l .loop .c .at) (l .loop .from) (l .loop .n) (l .loop .inv .5) (st .pre .1) e
+    going-end (now (a .d)) (now (a .t)) (a .v) (now (a .symbols)) (l .loop .sections) (l .loop .programs) (l .loop .functions) (l .loop .maps) (l .loop .c .at) (l .loop .from) (l .loop .n) (l .loop .inv .5) (st .pre .1) e
 
 pub parse-sections-spec : {M : Type 1} → statement M
 parse-sections-spec =

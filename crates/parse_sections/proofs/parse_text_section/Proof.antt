@@ -19,7 +19,7 @@ parse-text-section-requires c κs =
     let st = b .before .before .before .before .before .before .before .before .before in
     let a = st .args in
     let long = b .by-address .kept .1 .1 .1 .1 .1 .1 .0 in
-    ((search needs, omega (arith, long, st .pre .4), search needs), text-ready (now (a .d)) (now (a .t)) (a .v) (a .s) (now (a .order)) _ (a .lo) (a .hi) (st .pre .3) (st .pre .1) (b .by-address .ensures))
+    ((search needs, omega (arith, long, st .pre .4), search needs), text-ready (now (a .d)) (now (a .t)) (a .v) (a .s) (now (a .symbols)) _ (a .lo) (a .hi) (st .pre .3) (st .pre .1) (b .by-address .ensures))
 
 same-length : tie.Need-same-length
 same-length c = search needs

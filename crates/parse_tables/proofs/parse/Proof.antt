@@ -28,8 +28,8 @@ parse-object-requires c κs =
     let st = z .before .before .before .before .before .before .before .before .before in
     let a = st .args in
     let q = st .pre in
-    let few : a .v .symbols ≤ length (now (a .order)) = omega (arith, q .4) in
-    (q .5, lent-length (now (a .order)) _ (a .v .symbols) (z .size .ensures .0) few, q .0, q .1, q .2, q .3, q .6)
+    let few : a .v .symbols ≤ length (now (a .symbols)) = omega (arith, q .4) in
+    (q .5, lent-length (now (a .symbols)) _ (a .v .symbols) (z .size .ensures .0) few, q .0, q .1, q .2, q .3, q .6)
 
 enum-known-listed : tie.Need-enum-known-listed
 enum-known-listed c = search needs
@@ -43,7 +43,7 @@ number-tables-requires c κs =
     let z = p .before .before .before .before .before .before .before in
     let st = z .before .before .before .before .before .before .before .before .before in (
       rw (c .before .before .before .before .before .before .listed2 .given .1) at (p .parse-object .ensures),
-      rw (length-front (now (st .args .order)) (p .parse-object .last .1 .1 .1 .1 .0) (z .size .result - 0) (p .parse-object .kept .1 .1 .1 .1 .0)) (st .pre .4),
+      rw (length-front (now (st .args .symbols)) (p .parse-object .last .1 .1 .1 .1 .0) (z .size .result - 0) (p .parse-object .kept .1 .1 .1 .1 .0)) (st .pre .4),
     )
 
 same-length : tie.Need-same-length
@@ -87,7 +87,7 @@ same-length-11 c =
     let t = c .before .before .before .before .before .before .before .before .before .before in
     let p = t .before .before .before .before .before .before .before .before .before .before .before .before .before .before .before .before .before .before .before .before .before in
     let z = p .before .before .before .before .before .before .before in
-    t .number-tables .kept .1 .1 .1 .1 .1 .1 .1 .0 ∙ length-front (now (z .before .before .before .before .before .before .before .before .before .args .order)) (p .parse-object .last .1 .1 .1 .1 .0) (z .size .result - 0) (p .parse-object .kept .1 .1 .1 .1 .0)
+    t .number-tables .kept .1 .1 .1 .1 .1 .1 .1 .0 ∙ length-front (now (z .before .before .before .before .before .before .before .before .before .args .symbols)) (p .parse-object .last .1 .1 .1 .1 .0) (z .size .result - 0) (p .parse-object .kept .1 .1 .1 .1 .0)
 
 same-length-12 : tie.Need-same-length-12
 same-length-12 c = c .before .before .before .before .before .before .before .before .before .before .before .before .before .before .before .before .before .before .before .before .before .before .before .before .before .before .before .before .before .before .before .parse-object .kept .1 .1 .1 .0

@@ -34,7 +34,7 @@ returns c =
     let y = c .before .symbol in
     let e : c .refused .result ≡ refusal 11 (a .s .index) (symbolAt (now (a .d)) (now (a .t)) (a .v) (j .given .0 .0) .index) = c .refused .ensures ∙ rw (y .ensures) in
     rw e
-    (parsed-conflict (now (a .d)) (now (a .t)) (a .v) (a .s) (now (a .order)) (a .lo) (a .hi) (st .pre .1) (f .symbol-table-conflict .result) (now (a .out)) (a .w) (j .given .0 .0)
+    (parsed-conflict (now (a .d)) (now (a .t)) (a .v) (a .s) (now (a .symbols)) (a .lo) (a .hi) (st .pre .1) (f .symbol-table-conflict .result) (now (a .out)) (a .w) (j .given .0 .0)
     (f .symbol-table-conflict .ensures) (j .given .1))
 
 same-length : tie.Need-same-length
@@ -47,7 +47,7 @@ returns-2 c =
     let f = n .before .before in
     let st = f .before .before .before .before .before in
     let a = st .args in
-    parsed-walk (now (a .d)) (now (a .t)) (a .v) (a .s) (now (a .order)) (a .lo) (a .hi) (st .pre .1) (f .symbol-table-conflict .result) (now (a .out)) (a .w) (w .walk .result) (w .walk .last .1 .1 .1 .1 .1 .1 .1 .0)
+    parsed-walk (now (a .d)) (now (a .t)) (a .v) (a .s) (now (a .symbols)) (a .lo) (a .hi) (st .pre .1) (f .symbol-table-conflict .result) (now (a .out)) (a .w) (w .walk .result) (w .walk .last .1 .1 .1 .1 .1 .1 .1 .0)
     (f .symbol-table-conflict .ensures) (n .enum-told .given .1) (w .walk .ensures)
 
 pub parse-text-section-spec : {M : Type 1} → statement M

@@ -21,7 +21,7 @@ abbrev μ-loop : tie.MeasureT-loop
 loop-holds : tie.Need-loop-holds Inv-loop μ-loop
 loop-holds c =
     let a = c .before .before .before .args in
-    (omega arith, answer-first (addressIn (now (a .d)) (now (a .t)) (a .v)) (textGroup (now (a .d)) (now (a .t)) (a .v) (now (a .order)) (a .lo) (a .hi)))
+    (omega arith, answer-first (addressIn (now (a .d)) (now (a .t)) (a .v)) (textGroup (now (a .d)) (now (a .t)) (a .v) (now (a .symbols)) (a .lo) (a .hi)))
 
 mul-j : tie.Need-mul-j Inv-loop μ-loop
 mul-j c = search needs
@@ -46,14 +46,14 @@ loop-again c =
     let l = c .before .before .before .before in
     let a = l .before .before .before .before .args in
     let y = c .before .symbol in
-    let m : againNext (l .loop .a) (getD (now (a .order)) (l .loop .k) 0) (y .result) ≡ c .next .result = sym (c .next .ensures) in
-    (omega arith, l .loop .inv .1 ∙ answer-next (now (a .d)) (now (a .t)) (a .v) (l .loop .a) (now (a .order)) (l .loop .k) (a .hi) (omega arith) (omega arith) ∙ rw (← y .ensures, m))
+    let m : againNext (l .loop .a) (getD (now (a .symbols)) (l .loop .k) 0) (y .result) ≡ c .next .result = sym (c .next .ensures) in
+    (omega arith, l .loop .inv .1 ∙ answer-next (now (a .d)) (now (a .t)) (a .v) (l .loop .a) (now (a .symbols)) (l .loop .k) (a .hi) (omega arith) (omega arith) ∙ rw (← y .ensures, m))
 
 returns : tie.Need-returns Inv-loop μ-loop
 returns c =
     let l = c .before in
     let a = l .before .before .before .before .args in
-    sym (l .loop .inv .1 ∙ rw (group-end (now (a .d)) (now (a .t)) (a .v) (now (a .order)) (l .loop .k) (a .hi) (omega arith) (omega arith)) (answer-end (addressIn (now (a .d)) (now (a .t)) (a .v)) (l .loop .a)))
+    sym (l .loop .inv .1 ∙ rw (group-end (now (a .d)) (now (a .t)) (a .v) (now (a .symbols)) (l .loop .k) (a .hi) (omega arith) (omega arith)) (answer-end (addressIn (now (a .d)) (now (a .t)) (a .v)) (l .loop .a)))
 
 pub symbol-table-conflict-spec : {M : Type 1} → statement M
 symbol-table-conflict-spec =

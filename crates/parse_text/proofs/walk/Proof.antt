@@ -57,7 +57,7 @@ unknown i r e q =
     let l = i .before in
     let a = start l .args in
     rw e
-    (walked-unknown (now (a .d)) (now (a .t)) (a .v) (a .s) (now (a .order)) (a .lo) (a .hi) (now (a .out)) (a .w) (l .loop .offset) (l .loop .k) (l .loop .n) (l .loop .out)
+    (walked-unknown (now (a .d)) (now (a .t)) (a .v) (a .s) (now (a .symbols)) (a .lo) (a .hi) (now (a .out)) (a .w) (l .loop .offset) (l .loop .k) (l .loop .n) (l .loop .out)
     (l .loop .inv) (start l .pre .0 .2) (left i) q)
 
 -- where a record is defined text
@@ -71,7 +71,7 @@ loop-holds : tie.Need-loop-holds Inv-loop2 μ-loop2 Inv-loop μ-loop
 loop-holds c =
     let a = c .before .before .before .before .before .args in
     let p = c .before .before .before .before .before .pre in
-    walking-start (now (a .d)) (now (a .t)) (a .v) (a .s) (now (a .order)) (a .lo) (a .hi) (now (a .out)) (a .w) (omega arith) (p .1)
+    walking-start (now (a .d)) (now (a .t)) (a .v) (a .s) (now (a .symbols)) (a .lo) (a .hi) (now (a .out)) (a .w) (omega arith) (p .1)
 
 sub-if1 : tie.Need-sub-if1 Inv-loop2 μ-loop2 Inv-loop μ-loop
 sub-if1 c = search needs
@@ -109,7 +109,7 @@ returns-2 c =
     let a = start l .args in
     unknown (m .before .before) (c .unknown-symbol2 .result) (c .unknown-symbol2 .ensures)
     (number-found (now (a .d)) (now (a .t)) (a .v) (a .s) (l .loop .offset) none (reached (m .before))
-    (search-end (now (a .d)) (now (a .t)) (a .v) (a .s) (now (a .order)) (m .loop2 .k) (a .hi) (a .s .address + l .loop .offset)
+    (search-end (now (a .d)) (now (a .t)) (a .v) (a .s) (now (a .symbols)) (m .loop2 .k) (a .hi) (a .s .address + l .loop .offset)
     (c .before .if2 .taken) (m .loop2 .inv .1) (m .loop2 .inv .2)))
 
 mul-j : tie.Need-mul-j Inv-loop2 μ-loop2 Inv-loop μ-loop
@@ -142,7 +142,7 @@ returns-3 c =
     let a = start l .args in
     unknown (m .before .before) (c .unknown-symbol3 .result) (c .unknown-symbol3 .ensures)
     (number-found (now (a .d)) (now (a .t)) (a .v) (a .s) (l .loop .offset) none (reached (m .before))
-    (search-lost (now (a .d)) (now (a .t)) (a .v) (a .s) (now (a .order)) (m .loop2 .k) (a .hi) (a .s .address + l .loop .offset)
+    (search-lost (now (a .d)) (now (a .t)) (a .v) (a .s) (now (a .symbols)) (m .loop2 .k) (a .hi) (a .s .address + l .loop .offset)
     (x .before .before .before .if2 .left) (start l .pre .0 .1) (x .before .symbol .result) (x .before .symbol .ensures) (text i) (m .loop2 .inv .2) (c .before .if5 .taken)))
 
 loop2-less : tie.Need-loop2-less Inv-loop2 μ-loop2 Inv-loop μ-loop
@@ -160,7 +160,7 @@ loop2-again c =
     let more : m .loop2 .k < a .hi = x .before .before .before .if2 .left in (
       omega arith,
       omega arith,
-      search-below (now (a .d)) (now (a .t)) (a .v) (a .s) (now (a .order)) (m .loop2 .k) (a .hi) (a .s .address + l .loop .offset)
+      search-below (now (a .d)) (now (a .t)) (a .v) (a .s) (now (a .symbols)) (m .loop2 .k) (a .hi) (a .s .address + l .loop .offset)
           (x .before .before .before .if2 .left) (start l .pre .0 .1) (x .before .symbol .result) (x .before .symbol .ensures) (text i) (m .loop2 .inv .2) below,
     )
 
@@ -177,7 +177,7 @@ loop2-again-2 c =
     let more : m .loop2 .k < a .hi = x .before .before .before .if2 .left in (
       omega arith,
       omega arith,
-      search-other (now (a .d)) (now (a .t)) (a .v) (a .s) (now (a .order)) (m .loop2 .k) (a .hi) (a .s .address + l .loop .offset)
+      search-other (now (a .d)) (now (a .t)) (a .v) (a .s) (now (a .symbols)) (m .loop2 .k) (a .hi) (a .s .address + l .loop .offset)
           (x .before .before .before .if2 .left) (start l .pre .0 .1) (x .before .symbol .result) (x .before .symbol .ensures) (sym (x .is-defined-text .ensures) ∙ c .if3 .left) (m .loop2 .inv .2),
     )
 
@@ -186,15 +186,15 @@ abbrev seek : tie.Then4 Inv-loop2 μ-loop2 Inv-loop μ-loop → tie.At-loop2 Inv
 seek c = c .before .before .before .before .before .before .before
 
 found : (c : tie.Then4 Inv-loop2 μ-loop2 Inv-loop μ-loop)
-    → (let l = head (seek c) in let a = start l .args in numberFrom (now (a .d)) (now (a .t)) (a .v) (a .s) (l .loop .offset) ≡ some (getD (now (a .order)) (seek c .loop2 .k) 0))
+    → (let l = head (seek c) in let a = start l .args in numberFrom (now (a .d)) (now (a .t)) (a .v) (a .s) (l .loop .offset) ≡ some (getD (now (a .symbols)) (seek c .loop2 .k) 0))
 found c =
     let i = c .before .before in
     let x = i .before in
     let m = x .before .before .before .before in
     let l = head m in
     let a = start l .args in
-    number-found (now (a .d)) (now (a .t)) (a .v) (a .s) (l .loop .offset) (some (getD (now (a .order)) (m .loop2 .k) 0)) (reached (m .before))
-    (search-met (now (a .d)) (now (a .t)) (a .v) (a .s) (now (a .order)) (m .loop2 .k) (a .hi) (a .s .address + l .loop .offset)
+    number-found (now (a .d)) (now (a .t)) (a .v) (a .s) (l .loop .offset) (some (getD (now (a .symbols)) (m .loop2 .k) 0)) (reached (m .before))
+    (search-met (now (a .d)) (now (a .t)) (a .v) (a .s) (now (a .symbols)) (m .loop2 .k) (a .hi) (a .s .address + l .loop .offset)
     (x .before .before .before .if2 .left) (start l .pre .0 .1) (x .before .symbol .result) (x .before .symbol .ensures) (text i) (m .loop2 .inv .2) (c .if4 .taken))
 
 symbol-requires-2 : tie.Need-symbol-requires-2 Inv-loop2 μ-loop2 Inv-loop μ-loop
@@ -218,8 +218,8 @@ returns-4 c =
     let m = seek f in
     let l = head m in
     let a = start l .args in
-    walked-invalid (now (a .d)) (now (a .t)) (a .v) (a .s) (now (a .order)) (a .lo) (a .hi) (now (a .out)) (a .w) (l .loop .offset) (l .loop .k) (l .loop .n) (l .loop .out) (l .loop .inv)
-    (start l .pre .0 .2) (left (m .before .before)) (getD (now (a .order)) (m .loop2 .k) 0) _ (found f)
+    walked-invalid (now (a .d)) (now (a .t)) (a .v) (a .s) (now (a .symbols)) (a .lo) (a .hi) (now (a .out)) (a .w) (l .loop .offset) (l .loop .k) (l .loop .n) (l .loop .out) (l .loop .inv)
+    (start l .pre .0 .2) (left (m .before .before)) (getD (now (a .symbols)) (m .loop2 .k) 0) _ (found f)
     (ap (λ y. invalidSymbol (a .s) y (l .loop .offset)) (sym (v .before .symbol2 .ensures)) ∙ checked-refused _ _ (sym (v .invalid-symbol .ensures) ∙ c .before .r .given .1))
 
 enum-told : tie.Need-enum-told Inv-loop2 μ-loop2 Inv-loop μ-loop
@@ -285,15 +285,15 @@ loop-again c =
     let a = start l .args in
     let i = f .before .before in
     let x = i .before in
-    let j : ℕ = getD (now (a .order)) (m .loop2 .k) 0 in
+    let j : ℕ = getD (now (a .symbols)) (m .loop2 .k) 0 in
     let y = v .before .symbol2 in
     let first : l .loop .k ≤ m .loop2 .k = m .loop2 .inv .0 in
     let more : m .loop2 .k < a .hi = x .before .before .before .if2 .left in
     let positive : 0 < y .result .size = sizes e .0 in
     rw (y .ensures)
-    (walking-next (now (a .d)) (now (a .t)) (a .v) (a .s) (now (a .order)) (a .lo) (a .hi) (now (a .out)) (a .w) (l .loop .offset) (l .loop .k) (l .loop .n) (l .loop .out) (l .loop .inv)
+    (walking-next (now (a .d)) (now (a .t)) (a .v) (a .s) (now (a .symbols)) (a .lo) (a .hi) (now (a .out)) (a .w) (l .loop .offset) (l .loop .k) (l .loop .n) (l .loop .out) (l .loop .inv)
     (start l .pre .0 .2) (left (m .before .before)) j (m .loop2 .k + 1) (found f) (rw (← y .ensures) (fine e)) (omega arith) (omega arith)
-    (rw (← y .ensures) (search-past (now (a .d)) (now (a .t)) (a .v) (a .s) (now (a .order)) (m .loop2 .k) (a .hi) (a .s .address + l .loop .offset)
+    (rw (← y .ensures) (search-past (now (a .d)) (now (a .t)) (a .v) (a .s) (now (a .symbols)) (m .loop2 .k) (a .hi) (a .s .address + l .loop .offset)
     (x .before .before .before .if2 .left) (start l .pre .0 .1) (x .before .symbol .result) (x .before .symbol .ensures) (text i) (m .loop2 .inv .2) (a .s .address + (l .loop .offset + y .result .size)) (f .if4 .taken) (omega arith))))
 
 same-length-5 : tie.Need-same-length-5 Inv-loop2 μ-loop2 Inv-loop μ-loop
@@ -303,7 +303,7 @@ returns-5 : tie.Need-returns-5 Inv-loop2 μ-loop2 Inv-loop μ-loop
 returns-5 c =
     let l = c .before in
     let a = start l .args in
-    walked-end (now (a .d)) (now (a .t)) (a .v) (a .s) (now (a .order)) (a .lo) (a .hi) (now (a .out)) (a .w) (l .loop .offset) (l .loop .k) (l .loop .n) (l .loop .out) (l .loop .inv)
+    walked-end (now (a .d)) (now (a .t)) (a .v) (a .s) (now (a .symbols)) (a .lo) (a .hi) (now (a .out)) (a .w) (l .loop .offset) (l .loop .k) (l .loop .n) (l .loop .out) (l .loop .inv)
     (start l .pre .0 .2) (omega arith)
 
 pub walk-spec : {M : Type 1} → statement M

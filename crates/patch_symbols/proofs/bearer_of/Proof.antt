@@ -4,7 +4,7 @@ use mathlib.Core.Path.{sym, _∙_}
 use native.Mathlib.Omega.{arith}
 use borrow.Author.Tests.{not-true, not-false}
 use Rattle.patch_symbols.specs.Long.{too-long}
-use Rattle.patch_symbols.specs.Search.{nameOf, keyed, nobody-bears, one-bears, several-bear, stands-there}
+use Rattle.patch_symbols.specs.Search.{nameOf, lengthFirst, nobody-bears, one-bears, several-bear, stands-there}
 use borrow.Author.Needs.{needs}
 use Rattle.patch_symbols.proofs.bearer_of.Statement.{statement}
 use Rattle.patch_symbols.proofs.bearer_of.Tie as tie
@@ -26,7 +26,7 @@ returns-2 c =
     let s = c .before .before .before .before .before .before .before .before in
     let a = s .args in
     let b = c .before .before .lower-bound in
-    nobody-bears (now (a .d)) (now (a .t)) (a .v) (now (a .word)) (now (a .order)) (s .pre .1) (omega arith) (b .result) (b .ensures) (sym (c .before .bears-at .ensures) ∙ not-true _ (c .if2 .taken))
+    nobody-bears (now (a .d)) (now (a .t)) (a .v) (now (a .word)) (now (a .symbols)) (s .pre .1) (omega arith) (b .result) (b .ensures) (sym (c .before .bears-at .ensures) ∙ not-true _ (c .if2 .taken))
 
 add-bears-at : tie.Need-add-bears-at
 add-bears-at c = search needs
@@ -39,7 +39,7 @@ returns-3 c =
     let s = c .before .before .before .before .before .before .before .before .before .before in
     let a = s .args in
     let b = c .before .before .before .before .lower-bound in
-    several-bear (now (a .d)) (now (a .t)) (a .v) (now (a .word)) (now (a .order)) (s .pre .1) (omega arith) (b .result) (b .ensures)
+    several-bear (now (a .d)) (now (a .t)) (a .v) (now (a .word)) (now (a .symbols)) (s .pre .1) (omega arith) (b .result) (b .ensures)
     (sym (c .before .before .before .bears-at .ensures) ∙ not-false _ (c .before .before .if2 .left)) (sym (c .before .bears-at2 .ensures) ∙ c .if3 .taken)
 
 mul-t7 : tie.Need-mul-t7
@@ -49,14 +49,14 @@ shared-slice-read-t12 : tie.Need-shared-slice-read-t12
 shared-slice-read-t12 c =
     let a = c .before .before .before .before .before .before .before .before .before .before .before .args in
     let b = c .before .before .before .before in
-    stands-there (nameOf (now (a .d)) (now (a .t)) (a .v)) (keyed (now (a .word))) (now (a .order)) (b .before .lower-bound .result) (sym (b .bears-at .ensures) ∙ not-false _ (c .before .before .before .if2 .left))
+    stands-there (nameOf (now (a .d)) (now (a .t)) (a .v)) (lengthFirst (now (a .word))) (now (a .symbols)) (b .before .lower-bound .result) (sym (b .bears-at .ensures) ∙ not-false _ (c .before .before .before .if2 .left))
 
 returns-4 : tie.Need-returns-4
 returns-4 c =
     let s = c .before .before .before .before .before .before .before .before .before .before .before in
     let a = s .args in
     let b = c .before .before .before .before in
-    one-bears (now (a .d)) (now (a .t)) (a .v) (now (a .word)) (now (a .order)) (s .pre .1) (omega arith) (b .before .lower-bound .result) (b .before .lower-bound .ensures)
+    one-bears (now (a .d)) (now (a .t)) (a .v) (now (a .word)) (now (a .symbols)) (s .pre .1) (omega arith) (b .before .lower-bound .result) (b .before .lower-bound .ensures)
     (sym (b .bears-at .ensures) ∙ not-false _ (c .before .before .before .if2 .left)) (sym (c .before .before .bears-at2 .ensures) ∙ c .before .if3 .left)
 
 pub bearer-of-spec : {M : Type 1} → statement M

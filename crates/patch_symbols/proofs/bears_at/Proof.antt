@@ -22,13 +22,13 @@ is-same-requires c κs = search needs
 returns : tie.Need-returns
 returns c =
     let a = c .before .before .before .before .before .before .before .args in
-    let t : ltb (a .at) (length (now (a .order))) ≡ true = lt-ltb (a .at) (length (now (a .order))) (omega arith) in
+    let t : ltb (a .at) (length (now (a .symbols))) ≡ true = lt-ltb (a .at) (length (now (a .symbols))) (omega arith) in
     rw t (c .is-same .ensures)
 
 returns-2 : tie.Need-returns-2
 returns-2 c =
     let a = c .before .before .before .before .before .args in
-    let t : ltb (a .at) (length (now (a .order))) ≡ false = le-ltb (a .at) (length (now (a .order))) (omega arith) in
+    let t : ltb (a .at) (length (now (a .symbols))) ≡ false = le-ltb (a .at) (length (now (a .symbols))) (omega arith) in
     rw t
 
 pub bears-at-spec : {M : Type 1} → statement M

@@ -7,15 +7,15 @@ use native.Mathlib.Nat.{not-suc-le-zero}
 use native.Mathlib.Omega.{arith}
 use lib.ListN.{length}
 use Rattle.model.specs.Bytes.{before}
-use Rattle.patch_symbols.specs.Search.{nameOf, keyed, keyAt, names-below, names-above}
+use Rattle.patch_symbols.specs.Search.{nameOf, lengthFirst, keyAt, names-below, names-above}
 use borrow.Author.Needs.{needs}
 use Rattle.patch_symbols.proofs.lower_bound.Statement.{statement}
 use Rattle.patch_symbols.proofs.lower_bound.Tie as tie
 
 abbrev Inv-loop : tie.InvT-loop
 Inv-loop d t v order word low₀ high₀ low high =
-    (low ≤ high) × (high ≤ length order) × ((i : ℕ) → i < low → before (keyAt (nameOf d t v) (keyed word) order i) (keyed word) ≡ true)
-    × ((i : ℕ) → high ≤ i → i < length order → before (keyAt (nameOf d t v) (keyed word) order i) (keyed word) ≡ false)
+    (low ≤ high) × (high ≤ length order) × ((i : ℕ) → i < low → before (keyAt (nameOf d t v) (lengthFirst word) order i) (lengthFirst word) ≡ true)
+    × ((i : ℕ) → high ≤ i → i < length order → before (keyAt (nameOf d t v) (lengthFirst word) order i) (lengthFirst word) ≡ false)
 
 abbrev μ-loop : tie.MeasureT-loop
 μ-loop d t v order word low₀ high₀ low high = high - low
@@ -50,8 +50,8 @@ loop-again c =
     let s = c .before .before .before .before .before .before .before .before .before in
     let a = s .args in
     let m = l .low + (l .high - l .low) / 2 in
-    let t : m < length (now (a .order)) = omega arith in
-    (omega arith, omega arith, names-below (now (a .d)) (now (a .t)) (a .v) (now (a .word)) (now (a .order)) (s .pre .0) (s .pre .1) m t (sym (c .before .is-before .ensures) ∙ c .if1 .taken), l .inv .3)
+    let t : m < length (now (a .symbols)) = omega arith in
+    (omega arith, omega arith, names-below (now (a .d)) (now (a .t)) (a .v) (now (a .word)) (now (a .symbols)) (s .pre .0) (s .pre .1) m t (sym (c .before .is-before .ensures) ∙ c .if1 .taken), l .inv .3)
 
 loop-less-2 : tie.Need-loop-less-2 Inv-loop μ-loop
 loop-less-2 c = search needs
@@ -62,7 +62,7 @@ loop-again-2 c =
     let s = c .before .before .before .before .before .before .before .before .before in
     let a = s .args in
     let m = l .low + (l .high - l .low) / 2 in
-    (omega arith, omega arith, l .inv .2, names-above (now (a .d)) (now (a .t)) (a .v) (now (a .word)) (now (a .order)) (s .pre .0) (s .pre .1) m (sym (c .before .is-before .ensures) ∙ c .if1 .left))
+    (omega arith, omega arith, l .inv .2, names-above (now (a .d)) (now (a .t)) (a .v) (now (a .word)) (now (a .symbols)) (s .pre .0) (s .pre .1) m (sym (c .before .is-before .ensures) ∙ c .if1 .left))
 
 returns : tie.Need-returns Inv-loop μ-loop
 returns c =

@@ -4,17 +4,17 @@ use Prim.Native.Nat.{ℕ, _-_}
 use native.Mathlib.Omega.{arith}
 use denote.Ref.{now}
 use lib.ListN.{take, length-take}
-use Rattle.program_section.specs.Words.{words, number, empty-word}
+use Rattle.program_section.specs.Words.{wordTable, wordNumber, empty-word}
 use borrow.Author.Needs.{needs}
 use Rattle.program_section.proofs.number.Statement.{statement}
 use Rattle.program_section.proofs.number.Tie as tie
 
 from-start : (c : tie.After-key)
-    → let a = c .before .before .before .before .args in number words (take (a .n - 0) (now (a .v))) ≡ number words (take (a .n) (now (a .v)))
+    → let a = c .before .before .before .before .args in wordNumber wordTable (take (a .n - 0) (now (a .v))) ≡ wordNumber wordTable (take (a .n) (now (a .v)))
 from-start c =
     let a = c .before .before .before .before .args in
     let e : a .n - 0 ≡ a .n = omega arith in
-    ap (λ (k : ℕ). number words (take k (now (a .v)))) e
+    ap (λ (k : ℕ). wordNumber wordTable (take k (now (a .v)))) e
 
 returns : tie.Need-returns
 returns c =

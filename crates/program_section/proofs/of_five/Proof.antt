@@ -5,7 +5,7 @@ use Prim.Native.Nat.{ℕ}
 use denote.Ref.{now}
 use lib.Dec.{ltb}
 use Rattle.model.specs.Bytes.{keep}
-use Rattle.program_section.specs.Words.{words, answering, reading, second, number, keyOf, by-key, unlisted, allListed}
+use Rattle.program_section.specs.Words.{wordTable, answering, reading, second, wordNumber, wordKey, by-key, unlisted, allListed}
 use borrow.Author.Tests.{lt-ltb}
 use borrow.Author.Needs.{needs}
 use Rattle.program_section.proofs.of_five.Statement.{statement}
@@ -15,7 +15,7 @@ use Rattle.program_section.proofs.of_five.Tie as tie
 abbrev keys : List ℕ
 keys = 0x056C73 ∷ 0x056674 ∷ 0x056236 ∷ 0x056234 ∷ 0x04736B ∷ 0x046972 ∷ 0x037870 ∷ 0x037362 ∷ 0x036C6D ∷ 0x036476 ∷ 0x027470 ∷ []
 
-key-is : (c : tie.After-shared-slice-known) → keyOf (now (c .before .args .p)) ≡ c .before .args .k
+key-is : (c : tie.After-shared-slice-known) → wordKey (now (c .before .args .p)) ≡ c .before .args .k
 key-is c = sym (c .before .pre .0)
 
 slice-aggregate-named : tie.Need-slice-aggregate-named
@@ -85,51 +85,51 @@ named-requires-11 : tie.Need-named-requires-11
 named-requires-11 c κs = search needs
 
 returns : tie.Need-returns
-unfolding words answering reading second number keep
+unfolding wordTable answering reading second wordNumber keep
 returns c = let m = c .before .before in c .named .ensures ∙ sym (by-key _ 0x027470 (key-is (m .before) ∙ m .match .keys1))
 
 returns-2 : tie.Need-returns-2
-unfolding words answering reading second number keep
+unfolding wordTable answering reading second wordNumber keep
 returns-2 c = let m = c .before .before in c .named2 .ensures ∙ sym (by-key _ 0x036476 (key-is (m .before) ∙ m .match .keys2))
 
 returns-3 : tie.Need-returns-3
-unfolding words answering reading second number keep
+unfolding wordTable answering reading second wordNumber keep
 returns-3 c = let m = c .before .before in c .named3 .ensures ∙ sym (by-key _ 0x036C6D (key-is (m .before) ∙ m .match .keys3))
 
 returns-4 : tie.Need-returns-4
-unfolding words answering reading second number keep
+unfolding wordTable answering reading second wordNumber keep
 returns-4 c = let m = c .before .before in c .named4 .ensures ∙ sym (by-key _ 0x037362 (key-is (m .before) ∙ m .match .keys4))
 
 returns-5 : tie.Need-returns-5
-unfolding words answering reading second number keep
+unfolding wordTable answering reading second wordNumber keep
 returns-5 c = let m = c .before .before in c .named5 .ensures ∙ sym (by-key _ 0x037870 (key-is (m .before) ∙ m .match .keys5))
 
 returns-6 : tie.Need-returns-6
-unfolding words answering reading second number keep
+unfolding wordTable answering reading second wordNumber keep
 returns-6 c = let m = c .before .before in c .named6 .ensures ∙ sym (by-key _ 0x046972 (key-is (m .before) ∙ m .match .keys6))
 
 returns-7 : tie.Need-returns-7
-unfolding words answering reading second number keep
+unfolding wordTable answering reading second wordNumber keep
 returns-7 c = let m = c .before .before in c .named7 .ensures ∙ sym (by-key _ 0x04736B (key-is (m .before) ∙ m .match .keys7))
 
 returns-8 : tie.Need-returns-8
-unfolding words answering reading second number keep
+unfolding wordTable answering reading second wordNumber keep
 returns-8 c = let m = c .before .before in c .named8 .ensures ∙ sym (by-key _ 0x056234 (key-is (m .before) ∙ m .match .keys8))
 
 returns-9 : tie.Need-returns-9
-unfolding words answering reading second number keep
+unfolding wordTable answering reading second wordNumber keep
 returns-9 c = let m = c .before .before in c .named9 .ensures ∙ sym (by-key _ 0x056236 (key-is (m .before) ∙ m .match .keys9))
 
 returns-10 : tie.Need-returns-10
-unfolding words answering reading second number keep
+unfolding wordTable answering reading second wordNumber keep
 returns-10 c = let m = c .before .before in c .named10 .ensures ∙ sym (by-key _ 0x056674 (key-is (m .before) ∙ m .match .keys10))
 
 returns-11 : tie.Need-returns-11
-unfolding words answering reading second number keep
+unfolding wordTable answering reading second wordNumber keep
 returns-11 c = let m = c .before .before in c .named11 .ensures ∙ sym (by-key _ 0x056C73 (key-is (m .before) ∙ m .match .keys11))
 
 returns-12 : tie.Need-returns-12
-unfolding words answering reading second allListed
+unfolding wordTable answering reading second allListed
 returns-12 c = sym (unlisted _ (λ x. ltb x 0x060000) keys _ (key-is (c .before)) (lt-ltb _ _ (c .before .before .pre .1)) (c .match .rest) refl)
 
 pub of-five-spec : {M : Type 1} → statement M

@@ -25,13 +25,13 @@ returns : tie.Need-returns
 returns c =
     let a = c .before .before .before .before .before .before .before .before .args in
     let i = c .before .before in
-    c .row .ensures ∙ sym (made-row (now (a .d)) (now (a .t)) (now (a .order)) (a .i) (a .rows) (lt-ltb _ _ (i .before .if1 .taken)) (i .if2 .taken))
+    c .row .ensures ∙ sym (made-row (now (a .d)) (now (a .t)) (now (a .symbols)) (a .i) (a .rows) (lt-ltb _ _ (i .before .if1 .taken)) (i .if2 .taken))
 
 returns-2 : tie.Need-returns-2
 returns-2 c =
     let a = c .before .before .before .before .before .before .args in
     rw (c .zero-row .ensures)
-    (sym (made-none (now (a .d)) (now (a .t)) (now (a .order)) (a .i) (a .rows) (⊎-elim (λ w. rw (lt-ltb _ _ (w .0 .taken), w .1 .left)) (λ w. rw (le-ltb _ _ (w .left))) (c .before .if1 .came))))
+    (sym (made-none (now (a .d)) (now (a .t)) (now (a .symbols)) (a .i) (a .rows) (⊎-elim (λ w. rw (lt-ltb _ _ (w .0 .taken), w .1 .left)) (λ w. rw (le-ltb _ _ (w .left))) (c .before .if1 .came))))
 
 pub next-row-spec : {M : Type 1} → statement M
 next-row-spec =

@@ -67,15 +67,15 @@ loop-again c =
     let r = c .before .before .before .before .before .before .map-row in
     let put = c .before .before .before .before .put-row in
     let k : ℕ = l .loop .k in
-    let m : k < length (now (a .order)) = omega (arith, u, b .pre .1) in (
+    let m : k < length (now (a .numbers)) = omega (arith, u, b .pre .1) in (
       omega (arith, u),
       put .kept .0 ∙ l .loop .inv .1,
       omega (arith, l .loop .inv .2, r .ensures .name-short),
       omega (arith, l .loop .inv .3, r .ensures .own-short),
-      place-next (now (a .d)) (now (a .t)) (a .v) (now (a .order)) k (r .result) (r .ensures .row) (a .at) (l .loop .place) (l .loop .inv .4) m,
-      own-next (now (a .d)) (now (a .t)) (a .v) (now (a .order)) k (r .result) (r .ensures .row) (a .own) (l .loop .own-place) (l .loop .inv .5) m,
+      place-next (now (a .d)) (now (a .t)) (a .v) (now (a .numbers)) k (r .result) (r .ensures .row) (a .at) (l .loop .place) (l .loop .inv .4) m,
+      own-next (now (a .d)) (now (a .t)) (a .v) (now (a .numbers)) k (r .result) (r .ensures .row) (a .own) (l .loop .own-place) (l .loop .inv .5) m,
       put .ensures
-          ∙ rows-more (now (a .d)) (now (a .t)) (a .v) (now (a .order)) k (r .result) (r .ensures .row) (a .at) (a .own) (l .loop .place) (l .loop .own-place) (now (a .out)) (l .loop .out)
+          ∙ rows-more (now (a .d)) (now (a .t)) (a .v) (now (a .numbers)) k (r .result) (r .ensures .row) (a .at) (a .own) (l .loop .place) (l .loop .own-place) (now (a .out)) (l .loop .out)
           (l .loop .inv .4) (l .loop .inv .5) m (omega (arith, u, b .pre .5)) (l .loop .inv .6),
     )
 

@@ -22,14 +22,14 @@ abbrev μ-loop : tie.MeasureT-loop
 loop-holds : tie.Need-loop-holds Inv-loop μ-loop
 loop-holds c =
     let a = c .before .before .before .before .args in
-    (omega arith, refl, sym (rest-none (now (a .d)) (now (a .t)) (now (a .order)) (a .rows)), sym (stored-none (now (a .d)) (now (a .t)) (now (a .order)) (a .rows) (now (a .numbers))))
+    (omega arith, refl, sym (rest-none (now (a .d)) (now (a .t)) (now (a .symbols)) (a .rows)), sym (stored-none (now (a .d)) (now (a .t)) (now (a .symbols)) (a .rows) (now (a .numbers))))
 
 next-row-requires : tie.Need-next-row-requires Inv-loop μ-loop
 next-row-requires c κs =
     let l = c .before in
     let z = l .before .before .before .before .before in
     let a = z .args in
-    rw (l .loop .inv .2) (readable-rest (now (a .d)) (now (a .t)) (now (a .order)) 0 (a .rows) (l .loop .i) (z .pre))
+    rw (l .loop .inv .2) (readable-rest (now (a .d)) (now (a .t)) (now (a .symbols)) 0 (a .rows) (l .loop .i) (z .pre))
 
 store-row-requires : tie.Need-store-row-requires Inv-loop μ-loop
 store-row-requires c κs = search needs
@@ -48,11 +48,11 @@ loop-again c =
     let l = c .before .before .before .before .before .before .before .before in
     let a = l .before .before .before .before .before .args in
     let k : ℕ = l .loop .i in
-    let e : m .result ≡ madeAt (now (a .d)) (now (a .t)) (now (a .order)) (a .rows) k = m .ensures ∙ ap (madeOf (now (a .d)) (now (a .t)) (now (a .order)) k) (l .loop .inv .2) in (
+    let e : m .result ≡ madeAt (now (a .d)) (now (a .t)) (now (a .symbols)) (a .rows) k = m .ensures ∙ ap (madeOf (now (a .d)) (now (a .t)) (now (a .symbols)) k) (l .loop .inv .2) in (
       omega (arith, t),
       f .kept .0 ∙ l .loop .inv .1,
-      ap (λ x. x .rest) e ∙ rest-next (now (a .d)) (now (a .t)) (now (a .order)) (a .rows) k,
-      f .ensures ∙ stored-next (now (a .d)) (now (a .t)) (now (a .order)) (a .rows) (now (a .numbers)) k (l .loop .numbers) (m .result) e (l .loop .inv .3) (omega (arith, t)),
+      ap (λ x. x .rest) e ∙ rest-next (now (a .d)) (now (a .t)) (now (a .symbols)) (a .rows) k,
+      f .ensures ∙ stored-next (now (a .d)) (now (a .t)) (now (a .symbols)) (a .rows) (now (a .numbers)) k (l .loop .numbers) (m .result) e (l .loop .inv .3) (omega (arith, t)),
     )
 
 mul-zero64 : tie.Need-mul-zero64 Inv-loop μ-loop
@@ -82,8 +82,8 @@ returns c =
     let l = c .before .before .before .before .before in
     let a = l .before .before .before .before .before .args in
     let e : l .loop .i ≡ rowsIn (length (now (a .numbers))) = omega arith in
-    stored-all (now (a .d)) (now (a .t)) (now (a .order)) (a .rows) (now (a .numbers)) (rowsIn (length (now (a .numbers)))) (l .loop .numbers) (f .last .0)
-    (omega arith) (l .loop .inv .3 ∙ ap (stored (now (a .d)) (now (a .t)) (now (a .order)) (a .rows) (now (a .numbers))) e) (f .ensures)
+    stored-all (now (a .d)) (now (a .t)) (now (a .symbols)) (a .rows) (now (a .numbers)) (rowsIn (length (now (a .numbers)))) (l .loop .numbers) (f .last .0)
+    (omega arith) (l .loop .inv .3 ∙ ap (stored (now (a .d)) (now (a .t)) (now (a .symbols)) (a .rows) (now (a .numbers))) e) (f .ensures)
 
 pub fill-rows-spec : {M : Type 1} → statement M
 fill-rows-spec =

@@ -58,13 +58,13 @@ loop-again c =
     let t = c .before .before .before .before .before .before .before .loop-test .taken in
     let r = c .before .before .before .before .before .program-row in
     let k : ℕ = l .loop .k in
-    let m : k < length (now (a .order)) = omega (arith, t, b .pre) in (
+    let m : k < length (now (a .numbers)) = omega (arith, t, b .pre) in (
       omega (arith, t),
       c .before .before .before .put7 .kept .0 ∙ l .loop .inv .1,
       omega (arith, l .loop .inv .2, r .ensures .1),
-      place-next (now (a .d)) (now (a .t)) (a .v) (now (a .order)) (a .at) k (l .loop .place) (r .result) (r .ensures .0) (l .loop .inv .3) m,
+      place-next (now (a .d)) (now (a .t)) (a .v) (now (a .numbers)) (a .at) k (l .loop .place) (r .result) (r .ensures .0) (l .loop .inv .3) m,
       c .before .before .before .put7 .ensures
-          ∙ rows-more (now (a .d)) (now (a .t)) (a .v) (now (a .order)) (a .at) k (l .loop .place) (r .result) (r .ensures .0) (l .loop .inv .3) (now (a .out)) (l .loop .out)
+          ∙ rows-more (now (a .d)) (now (a .t)) (a .v) (now (a .numbers)) (a .at) k (l .loop .place) (r .result) (r .ensures .0) (l .loop .inv .3) (now (a .out)) (l .loop .out)
           m (omega (arith, t, b .pre)) (l .loop .inv .4),
     )
 

@@ -71,13 +71,13 @@ loop-again c =
     let len = c .before .before .before .before .before .wide64 in
     let index = c .before .before .before .wide642 in
     let k : ℕ = l .loop .k in
-    let m : k < length (now (a .order)) = omega (arith, u, b .pre) in (
+    let m : k < length (now (a .numbers)) = omega (arith, u, b .pre) in (
       omega (arith, u),
       c .before .before .put4 .kept .0 ∙ l .loop .inv .1,
       omega (arith, l .loop .inv .2, len .ensures),
-      rw (len .ensures .0) (place-next (now (a .d)) (now (a .t)) (a .v) (now (a .order)) (a .at) k (l .loop .place) (s .result) (s .ensures) (l .loop .inv .3) m),
+      rw (len .ensures .0) (place-next (now (a .d)) (now (a .t)) (a .v) (now (a .numbers)) (a .at) k (l .loop .place) (s .result) (s .ensures) (l .loop .inv .3) m),
       c .before .before .put4 .ensures
-          ∙ rows-more (now (a .d)) (now (a .t)) (a .v) (now (a .order)) (a .at) k (l .loop .place) (len .result) (index .result) (s .result) (now (a .out)) (l .loop .out)
+          ∙ rows-more (now (a .d)) (now (a .t)) (a .v) (now (a .numbers)) (a .at) k (l .loop .place) (len .result) (index .result) (s .result) (now (a .out)) (l .loop .out)
           (s .ensures) (l .loop .inv .3) (len .ensures .0) (index .ensures .0) m (omega (arith, u, b .pre)) (l .loop .inv .4),
     )
 

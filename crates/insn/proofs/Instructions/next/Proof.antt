@@ -42,7 +42,7 @@ use denote.Triple.Table.{entered, cited}
 use denote.Triple.Walked.{says, Stays, stay-none, walkOf, goes-none, Walks, ends-at, walked, walk-meets}
 use denote.Exit.{yes}
 use denote.Triple.Clauses.{ensured, lasts}
-use Rattle.insn.specs.Reading.{left, nextOf}
+use Rattle.insn.specs.Reading.{instructionsFrom, nextOf}
 use Rattle.insn.specs.declared.Instructions.{Instructions}
 use Rattle.insn.specs.declared.Next.{Next}
 use Rattle.insn.proofs.Instructions as T
@@ -79,7 +79,7 @@ module _ {M : Type 1} (𝓤 : URA M) (H : Heap 𝓤) (A : Atoms 𝓤) (W : Given
   v = sliceVal (d .bytes .ptr) (length (d .bytes .now))
 
   abbrev found : Next
-  found = nextOf (left (now (d .bytes)) (d .slot))
+  found = nextOf (instructionsFrom (now (d .bytes)) (d .slot))
 
   abbrev Post : Val → SProp 𝓤
   Post = walkOf 𝓤 H A next.ended stayed (next.clauses 𝓤 H A mem run) .post (((κ, tt), (q, tt), tt, (d, tt), (mach ∷ [], tt)), tt)
