@@ -34,8 +34,8 @@ use Rattle.catalogue_laws.specs.Numbers.{upTo}
 use Rattle.catalogue_laws.specs.Groups.{all-below}
 use Rattle.catalogue_laws.specs.ByNumber.{members, programMembers, textMembers, textOrder, numberAt, programs-by, symbols-by}
 use Rattle.catalogue_laws.specs.Shared.{byAddress}
-use Rattle.catalogue_laws.specs.SectionsPrograms.{All, Rising, all-kept, home, sectionsIn, programsIn}
-use Rattle.catalogue_laws.specs.FunctionsMaps.{Inside, inside, inside-programs, inside-walk, functionsIn, mapsIn, all-rows, all-found, all-sorted, all-∈}
+use Rattle.catalogue_laws.specs.SectionsPrograms.{All, IndexesRising, all-kept, home, sectionsIn, programsIn}
+use Rattle.catalogue_laws.specs.FunctionsMaps.{Inside, inside, inside-programs, inside-walk, functionNumbersIn, mapsIn, all-rows, all-found, all-sorted, all-∈}
 use Rattle.catalogue_laws.specs.Tables.{table-members}
 use Rattle.catalogue_laws.specs.Walk.{numberIn, walkRefusal, walk-met, walkNumbers, textFunctionOf, met-address}
 use Rattle.records.specs.declared.MapSource.{MapSource}
@@ -303,7 +303,7 @@ module _ (d t : List ℕ) (v : View) (ok : objectRefusal (objectIn d t v) ≡ no
       go true (some j) f r = (found-below i p j f, r j)
 
   module _ (r : Readable d t v) where
-    abbrev rise : Rising order sec (v .sections) at (v .symbols)
+    abbrev rise : IndexesRising order sec (v .sections) at (v .symbols)
     rise = rising d t v (r .sections-rise)
 
     abbrev in-section : ℕ → ℕ → Type 0
@@ -329,7 +329,7 @@ module _ (d t : List ℕ) (v : View) (ok : objectRefusal (objectIn d t v) ≡ no
         (λ j m. all-∈ (λ k. homeAt d t v k ≡ i → k < v .symbols → FunctionFits d t v k) j js a m (all-∈ (in-section i) j js b m .home-of) (all-∈ (λ k. k < v .symbols) j js c m))
 
     pub functions-fit : All (FunctionFits d t v) (functionNumbers d t v)
-    unfolding functionNumbers functionCandidates functionsIn
+    unfolding functionNumbers functionCandidates functionNumbersIn
     functions-fit = all-table (FunctionFits d t v) _ (rows (functionsFrom d t v) (v .sections)) (all-rows (FunctionFits d t v) (functionsFrom d t v) (v .sections) one)
       where
         one : (i : ℕ) → i < v .sections → All (FunctionFits d t v) (functionsFrom d t v i)

@@ -37,15 +37,15 @@ module _ (d t : List ℕ) (v : View) where
   offset-is j = ap (λ (f : Function). f .offset) (function-is d t v j)
 
   -- its bytes in the data
-  abbrev pub bytesOf : ℕ → List ℕ
-  bytesOf j = part (dataIn d v (sectionOf d t v j .bytes)) (startOf d t v j) (symbolAt d t v j .size)
+  abbrev pub codeBytes : ℕ → List ℕ
+  codeBytes j = part (dataIn d v (sectionOf d t v j .bytes)) (startOf d t v j) (symbolAt d t v j .size)
 
-  pub code-read : (j : ℕ) → functionAt d t v j .code ≡ instructions (symbolAt d t v j .size / 8) (bytesOf j)
+  pub code-read : (j : ℕ) → functionAt d t v j .code ≡ instructions (symbolAt d t v j .size / 8) (codeBytes j)
   unfolding functionOf sectionFrom symbolFrom
   code-read j = ap (λ (f : Function). f .code) (function-is d t v j)
 
 -- the code of function j lies in the data of section s, from offset o on
-pub record Found (d t : List ℕ) (v : View) (j : ℕ) (s : SectionRecord) (o : ℕ) (y : SymbolRecord) : Type 0 where
+pub record CodeFound (d t : List ℕ) (v : View) (j : ℕ) (s : SectionRecord) (o : ℕ) (y : SymbolRecord) : Type 0 where
   pub short : o + y .size < 2 ^ 32
   pub code : bytesAt d (gapOf v) (v .at .bytes + s .bytes .at + o) (y .size) ≡ codeAt d t v j
   pub long : length (codeAt d t v j) ≡ y .size
@@ -61,22 +61,22 @@ module _ (d t : List ℕ) (v : View) (j : ℕ) (fits : FunctionFits d t v j) whe
   inside : startOf d t v j + symbolAt d t v j .size ≤ sectionOf d t v j .bytes .length
   inside = rw offset-is at (fits .within)
 
-  bytes-are : bytesOf d t v j ≡ bytesAt d (gapOf v) (v .at .bytes + sectionOf d t v j .bytes .at + startOf d t v j) (symbolAt d t v j .size)
+  bytes-are : codeBytes d t v j ≡ bytesAt d (gapOf v) (v .at .bytes + sectionOf d t v j .bytes .at + startOf d t v j) (symbolAt d t v j .size)
   bytes-are = part-bytes d (gapOf v) (v .at .bytes + sectionOf d t v j .bytes .at) (sectionOf d t v j .bytes .length) (startOf d t v j) (symbolAt d t v j .size) inside
 
   module _ (small : (k : ℕ) → byteAt d (gapOf v) k < 256) where
     -- whole instructions
-    pub bytes-found : (length (bytesOf d t v j) ≡ symbolAt d t v j .size / 8 * 8) × AllBytes (bytesOf d t v j)
+    pub bytes-found : (length (codeBytes d t v j) ≡ symbolAt d t v j .size / 8 * 8) × AllBytes (codeBytes d t v j)
     bytes-found =
         let w = fits .whole in
-        let l : length (bytesOf d t v j) ≡ symbolAt d t v j .size =
+        let l : length (codeBytes d t v j) ≡ symbolAt d t v j .size =
         ap length bytes-are ∙ length-bytes d (gapOf v) (v .at .bytes + sectionOf d t v j .bytes .at + startOf d t v j) (symbolAt d t v j .size)
         in
         (omega (arith, l, w), rw bytes-are (all-small d (gapOf v) small _ _))
 
     code-bytes : codeAt d t v j ≡ bytesAt d (gapOf v) (v .at .bytes + sectionOf d t v j .bytes .at + startOf d t v j) (symbolAt d t v j .size)
     code-bytes =
-        ap (each eight) (code-read d t v j) ∙ code-is (symbolAt d t v j .size / 8) (bytesOf d t v j) (bytes-found .0) (bytes-found .1) ∙ bytes-are
+        ap (each eight) (code-read d t v j) ∙ code-is (symbolAt d t v j .size / 8) (codeBytes d t v j) (bytes-found .0) (bytes-found .1) ∙ bytes-are
 
     pub code-length : length (codeAt d t v j) ≡ symbolAt d t v j .size
     code-length = ap length code-bytes ∙ length-bytes d (gapOf v) (v .at .bytes + sectionOf d t v j .bytes .at + startOf d t v j) (symbolAt d t v j .size)
@@ -90,7 +90,7 @@ module _ (d t : List ℕ) (v : View) (j : ℕ) (fits : FunctionFits d t v j) whe
     size-small = omega (arith, inside, of-data .short)
 
     module _ (small : (k : ℕ) → byteAt d (gapOf v) k < 256) where
-      is-found : Found d t v j (sectionOf d t v j) (startOf d t v j) (symbolAt d t v j)
+      is-found : CodeFound d t v j (sectionOf d t v j) (startOf d t v j) (symbolAt d t v j)
       is-found =
           let b = sectionOf d t v j .bytes in
           let end : v .at .bytes + b .at + startOf d t v j + symbolAt d t v j .size ≤ v .at .bytes + b .at + b .length = omega (arith, inside) in
@@ -101,5 +101,5 @@ module _ (d t : List ℕ) (v : View) (j : ℕ) (fits : FunctionFits d t v j) whe
             placed = le-trans (place-mono (gapOf v) _ _ end) (of-data .placed);
           }
 
-      pub found : (y : SymbolRecord) (s : SectionRecord) (o : ℕ) → y ≡ symbolAt d t v j → s ≡ sectionOf d t v j → o ≡ codeOffset d t v s y → Found d t v j s o y
+      pub found : (y : SymbolRecord) (s : SectionRecord) (o : ℕ) → y ≡ symbolAt d t v j → s ≡ sectionOf d t v j → o ≡ codeOffset d t v s y → CodeFound d t v j s o y
       found y s o ey es eo = rw (eo, es, ey) is-found

@@ -16,7 +16,7 @@ use Rattle.records.specs.View.{gapOf, symbolAt}
 use Rattle.insn.specs.Sanitized.{sanitized, sanitized-code, sanitized-join, length-each-eight}
 use Rattle.catalogue_numbers.specs.Numbers.{functionAt}
 use Rattle.catalogue_numbers.specs.Fits.{FunctionFits}
-use Rattle.bytes_code.specs.Code.{bytesOf, code-read, AllFit, bytes-found}
+use Rattle.bytes_code.specs.Code.{codeBytes, code-read, AllFit, bytes-found}
 
 -- a function whose instructions were read from bytes
 pub record Encoded (f : Function) : Type 0 where
@@ -47,7 +47,7 @@ module _ (d t : List ℕ) (v : View) (small : (k : ℕ) → byteAt d (gapOf v) k
   encoded : (j : ℕ) → FunctionFits d t v j → Encoded (functionAt d t v j)
   encoded j fits =
       let b = bytes-found d t v j fits small in
-      record { count = symbolAt d t v j .size / 8; bytes = bytesOf d t v j; read = code-read d t v j; long = b .0; all = b .1 }
+      record { count = symbolAt d t v j .size / 8; bytes = codeBytes d t v j; read = code-read d t v j; long = b .0; all = b .1 }
 
   pub all-encoded : (order : List ℕ) (n : ℕ) → AllFit d t v order n → AllEncoded (map (functionAt d t v) (take n order))
   all-encoded [] zero fit = tt

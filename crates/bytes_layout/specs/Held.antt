@@ -32,7 +32,7 @@ use Rattle.bytes_layout.specs.declared.Part.{Part}
 use Rattle.bytes_layout.specs.declared.Places.{Places}
 use Rattle.bytes_layout.specs.Parts.{catalogue, licence-is, section-names, program-names, function-names, function-code, map-names, map-own}
 use Rattle.bytes_layout.specs.Bounds.{all-front, all-weaken}
-use Rattle.bytes_layout.specs.Listed.{PartFits, Listed}
+use Rattle.bytes_layout.specs.Listed.{PartFits, PartListed}
 
 -- the four tables, each at the front of its list; the licence and the version
 pub record Held (d t : List ℕ) (v : View) (n : Counts) (s p f m : List ℕ) : Type 0 where
@@ -68,7 +68,7 @@ unfolding bytesOf ownStart mapsAt codeStart functionsAt programsAt sectionsAt
 bytes-end c = rw (length-append, length-append, length-append, length-append, length-append, length-append) (omega arith)
 
 -- each part begins inside
-pub record Inside (c : Catalogue) : Type 0 where
+pub record PartsInside (c : Catalogue) : Type 0 where
   pub sections : sectionsAt c ≤ length (bytesOf c)
   pub programs : programsAt c ≤ length (bytesOf c)
   pub functions : functionsAt c + length (each functionName (c .functions)) ≤ length (bytesOf c)
@@ -76,7 +76,7 @@ pub record Inside (c : Catalogue) : Type 0 where
   pub maps : mapsAt c ≤ length (bytesOf c)
   pub own : ownStart c + length (each mapOwn (c .maps)) ≡ length (bytesOf c)
 
-pub parts-inside : (c : Catalogue) → Inside c
+pub parts-inside : (c : Catalogue) → PartsInside c
 unfolding ownStart mapsAt codeStart functionsAt programsAt sectionsAt
 parts-inside c =
     let e = bytes-end c in
@@ -135,29 +135,29 @@ module _ (d t : List ℕ) (v : View) (r : Readable d t v) (ok : objectRefusal (o
 
   -- ---- the tables
 
-  listed : (part : Part) (k : ℕ) (l : List ℕ) → k ≤ length l → k ≤ 69632 → All (PartFits part d t v) (take k l) → Listed part d t v l k
+  listed : (part : Part) (k : ℕ) (l : List ℕ) → k ≤ length l → k ≤ 69632 → All (PartFits part d t v) (take k l) → PartListed part d t v l k
   listed part k l e g a = (e, g, r, all-front (PartFits part d t v) k l e a)
 
-  pub sections-listed : Listed (Part.Name Piece.SectionName) d t v s (n .sections)
+  pub sections-listed : PartListed (Part.Name Piece.SectionName) d t v s (n .sections)
   sections-listed = listed (Part.Name Piece.SectionName) (n .sections) s (held .sections-in) (held .few-sections) (rw (held .sections) (sections-below d t v ok))
 
-  pub programs-listed : Listed (Part.Name Piece.SymbolName) d t v p (n .programs)
+  pub programs-listed : PartListed (Part.Name Piece.SymbolName) d t v p (n .programs)
   programs-listed = listed (Part.Name Piece.SymbolName) (n .programs) p (held .programs-in) (held .few-programs) (rw (held .programs) (programs-below d t v ok))
 
-  pub functions-listed : Listed (Part.Name Piece.SymbolName) d t v f (n .functions)
+  pub functions-listed : PartListed (Part.Name Piece.SymbolName) d t v f (n .functions)
   functions-listed =
       listed (Part.Name Piece.SymbolName) (n .functions) f (held .functions-in) (omega (arith, held .few-functions))
       (all-weaken (FunctionFits d t v) (Known Piece.SymbolName v) (take (n .functions) f) (λ j e. e .symbol) functions-fitting)
 
-  pub code-listed : Listed Part.Code d t v f (n .functions)
+  pub code-listed : PartListed Part.Code d t v f (n .functions)
   code-listed = listed Part.Code (n .functions) f (held .functions-in) (omega (arith, held .few-functions)) functions-fitting
 
-  pub maps-listed : Listed (Part.Name Piece.MapName) d t v m (n .maps)
+  pub maps-listed : PartListed (Part.Name Piece.MapName) d t v m (n .maps)
   maps-listed =
       listed (Part.Name Piece.MapName) (n .maps) m (held .maps-in) (held .few-maps)
       (all-weaken (MapFits d t v) (Known Piece.MapName v) (take (n .maps) m) (λ j e. source-known (mapSourceOf (v .sections) j) e) maps-fitting)
 
-  pub own-listed : Listed Part.Own d t v m (n .maps)
+  pub own-listed : PartListed Part.Own d t v m (n .maps)
   own-listed = (held .maps-in, held .few-maps, r, λ k l. tt)
 
   -- ---- the parts, by the tables in hand

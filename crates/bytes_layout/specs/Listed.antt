@@ -23,5 +23,5 @@ PartFits Part.Code d t v j = FunctionFits d t v j
 PartFits Part.Own d t v j = Unit {0}
 
 -- the first n numbers of a table do
-abbrev pub Listed : Part → List ℕ → List ℕ → View → List ℕ → ℕ → Type 0
-Listed part d t v order n = (n ≤ length order) × (n ≤ 69632) × Readable d t v × ((k : ℕ) → k < n → PartFits part d t v (getD order k 0))
+abbrev pub PartListed : Part → List ℕ → List ℕ → View → List ℕ → ℕ → Type 0
+PartListed part d t v order n = (n ≤ length order) × (n ≤ 69632) × Readable d t v × ((k : ℕ) → k < n → PartFits part d t v (getD order k 0))

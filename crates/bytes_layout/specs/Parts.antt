@@ -10,7 +10,7 @@ use Rattle.model.specs.Contents.{licenceOf, catalogueOf, programAt as programOf
 use Rattle.model.specs.Lent.{sectionName, programName, functionName, functionCode, mapName, mapOwn}
 use Rattle.model.specs.Refusals.{objectRefusal}
 use Rattle.catalogue_laws.specs.Numbers.{each-map}
-use Rattle.catalogue_laws.specs.FunctionsMaps.{mapName as mapKeyName, name-of-map}
+use Rattle.catalogue_laws.specs.FunctionsMaps.{mapNameOfNumber as mapKeyName, name-of-map}
 use Rattle.object.specs.View.{sectionIn, symbolIn, objectIn}
 use Rattle.catalogue_numbers.specs.Function.{function-is}
 use Rattle.catalogue_numbers.specs.Numbers.{sectionNumbers, programNumbers, functionNumbers, mapNumbers, entryAt, programAt, functionAt, mapAt, sections-by, programs-by, functions-by, maps-by}

@@ -14,7 +14,7 @@ ghost use Rattle.parse_first.specs.LicenceVersion.{licenseAt};
 ghost use Rattle.bytes_layout.specs.Licence.{licenceLength};
 ghost use Rattle.bytes_layout.specs.Parts.{catalogue};
 ghost use Rattle.bytes_layout.specs.Held.{Held, At};
-ghost use Rattle.bytes_layout.specs.Listed.{partOf, PartFits, Listed};
+ghost use Rattle.bytes_layout.specs.Listed.{partOf, PartFits, PartListed};
 use bytes_names::Piece;
 use bytes_names::copy_stream;
 use lists::copy8;
@@ -54,8 +54,11 @@ fn part_length(d: &[u8], t: &[u32], v: View, part: Part, j: u32) -> usize
 
 // How many bytes the first n numbers have of a part.
 fn total(d: &[u8], t: &[u32], v: View, part: Part, numbers: &[u32], n: usize) -> usize
-    requires { ⌜ Listed part (now d) (now t) v (now numbers) n ⌝ }
-    ensures { λ r. ⌜ (r ≡ length (each (partOf part (now (d .entry)) (now (t .entry)) v) (take n (now (numbers .entry))))) × (r ≤ 69632 * 16777216) ⌝ }
+    requires { ⌜ PartListed part (now d) (now t) v (now numbers) n ⌝ }
+    ensures { λ r.
+        ⌜
+        (r ≡ length (each (partOf part (now (d .entry)) (now (t .entry)) v) (take n (now (numbers .entry))))) × (r ≤ 69632 * 16777216)
+        ⌝ }
 {
     let mut sum: usize = 0;
     let mut k: usize = 0;
@@ -94,7 +97,7 @@ fn put_part(
     at: usize,
 ) -> usize
     requires { ⌜
-        Listed part (now d) (now t) v (now numbers) n × (at + length (each (partOf part (now d) (now t) v) (take n (now numbers))) ≤ length (now out))
+        PartListed part (now d) (now t) v (now numbers) n × (at + length (each (partOf part (now d) (now t) v) (take n (now numbers))) ≤ length (now out))
         ⌝ }
     ensures { λ r.
         ⌜

@@ -9,7 +9,7 @@ use Rattle.stream.specs.Stream.{place, bytesAt, length-bytes}
 use Rattle.records.specs.declared.MapSource.{MapSource}
 use Rattle.records.specs.View.{gapOf, sectionAt, symbolAt, nameIn}
 use Rattle.records.specs.Maps.{mapSourceOf, sourceName as nameAt, mapNameAt}
-use Rattle.catalogue_laws.specs.FunctionsMaps.{sourceName, mapName}
+use Rattle.catalogue_laws.specs.FunctionsMaps.{sourceNameBytes, mapNameOfNumber}
 use Rattle.object.specs.View.{sectionFrom, symbolFrom, sectionIn, symbolIn}
 use Rattle.bytes_names.specs.declared.Piece.{Piece}
 
@@ -32,11 +32,11 @@ module _ (d t : List ℕ) (v : View) (j : ℕ) where
   unfolding extentOf symbolFrom
   symbol-piece = refl
 
-  pub map-piece : pieceOf Piece.MapName d t v j ≡ mapName (v .order) (sectionIn d t v) (v .sections) (symbolIn d t v) (v .symbols) j
+  pub map-piece : pieceOf Piece.MapName d t v j ≡ mapNameOfNumber (v .order) (sectionIn d t v) (v .sections) (symbolIn d t v) (v .symbols) j
   unfolding extentOf mapNameAt sectionFrom symbolFrom
   map-piece = go (mapSourceOf (v .sections) j)
     where
-      go : (s : MapSource) → nameIn d v (nameAt d t v s) ≡ sourceName (v .order) (sectionIn d t v) (v .sections) (symbolIn d t v) (v .symbols) s
+      go : (s : MapSource) → nameIn d v (nameAt d t v s) ≡ sourceNameBytes (v .order) (sectionIn d t v) (v .sections) (symbolIn d t v) (v .symbols) s
       go (MapSource.Section i) = refl
       go (MapSource.Symbol k) = refl
 

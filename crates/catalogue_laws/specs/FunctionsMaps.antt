@@ -29,7 +29,7 @@ use Rattle.catalogue_laws.specs.Tables.{table-map, table-on}
 use Rattle.catalogue_laws.specs.Shared.{byAddress}
 use Rattle.catalogue_laws.specs.ByNumber.{members, programMembers, textMembers, textOrder, numberAt, symbols-by, programs-by, rawSection}
 use Rattle.catalogue_laws.specs.Walk.{numberIn, walkNumbers, textFunctionOf, functions-met}
-use Rattle.catalogue_laws.specs.SectionsPrograms.{rows-map, rows-ext, All, map-on, all-keep, all-kept, whole, Rising, home, home-is}
+use Rattle.catalogue_laws.specs.SectionsPrograms.{rows-map, rows-ext, All, map-on, all-keep, all-kept, whole, IndexesRising, home, home-is}
 
 -- ---- what all of a list have, its sorted form and what is found in it have
 
@@ -82,7 +82,7 @@ module _ (e : Endianness) (sec : ℕ → Section) (S : ℕ) (at : ℕ → Symbol
     pub home-of : home e sec S at Y j ≡ i
     pub lies : liesIn (sec i .index) (at j .section) ≡ true
 
-  pub inside : Rising e sec S at Y → (i : ℕ) → i < S → All (Inside i) (members e (tab sec S) at Y (sec i))
+  pub inside : IndexesRising e sec S at Y → (i : ℕ) → i < S → All (Inside i) (members e (tab sec S) at Y (sec i))
   unfolding members
   inside rise i l = go (tab (λ j. j) Y)
     where
@@ -90,15 +90,15 @@ module _ (e : Endianness) (sec : ℕ → Section) (S : ℕ) (at : ℕ → Symbol
       go js = all-keep (Inside i) (λ j. liesIn (sec i .index) (at j .section)) js
           (λ j h. record { home-of = home-is e sec S at Y rise i j l h; lies = h })
 
-  pub inside-programs : Rising e sec S at Y → (i : ℕ) → i < S → All (Inside i) (programMembers e (tab sec S) at Y (sec i))
+  pub inside-programs : IndexesRising e sec S at Y → (i : ℕ) → i < S → All (Inside i) (programMembers e (tab sec S) at Y (sec i))
   unfolding programMembers
   inside-programs rise i l = all-kept (Inside i) _ (members e (tab sec S) at Y (sec i)) (inside rise i l)
 
-  inside-text : Rising e sec S at Y → (i : ℕ) → i < S → All (Inside i) (textOrder e (tab sec S) at Y (sec i))
+  inside-text : IndexesRising e sec S at Y → (i : ℕ) → i < S → All (Inside i) (textOrder e (tab sec S) at Y (sec i))
   unfolding textOrder textMembers
   inside-text rise i l = all-sorted (Inside i) (byAddress (λ j. at j .address)) _ (all-kept (Inside i) _ (members e (tab sec S) at Y (sec i)) (inside rise i l))
 
-  pub inside-walk : Rising e sec S at Y → (i : ℕ) → i < S → (n o : ℕ) → All (Inside i) (walkNumbers e (tab sec S) at Y (sec i) n o)
+  pub inside-walk : IndexesRising e sec S at Y → (i : ℕ) → i < S → (n o : ℕ) → All (Inside i) (walkNumbers e (tab sec S) at Y (sec i) n o)
   unfolding walkNumbers
   inside-walk rise i l zero o = tt
   inside-walk rise i l (suc n) o = go (ltb o (length (sec i .bytes))) (numberIn e (tab sec S) at Y (sec i) o) refl (λ j. inside-walk rise i l n (o + at j .size))
@@ -116,8 +116,8 @@ module _ (e : Endianness) (sec : ℕ → Section) (S : ℕ) (at : ℕ → Symbol
 
   -- ---- functions
 
-  unfoldable pub functionsIn : ℕ → List ℕ
-  functionsIn i =
+  unfoldable pub functionNumbersIn : ℕ → List ℕ
+  functionNumbersIn i =
       cond (isKind Kind.Program (kindOf (sec i))) (programMembers e (tab sec S) at Y (sec i))
       (cond (isKind Kind.Text (kindOf (sec i))) (walkNumbers e (tab sec S) at Y (sec i) (length (sec i .bytes)) 0) [])
 
@@ -148,8 +148,8 @@ module _ (e : Endianness) (sec : ℕ → Section) (S : ℕ) (at : ℕ → Symbol
     pub in-section : ℕ
     pub held : Inside in-section j
 
-  listed-in : Rising e sec S at Y → (i : ℕ) → i < S → All (Inside i) (functionsIn i)
-  unfolding functionsIn
+  listed-in : IndexesRising e sec S at Y → (i : ℕ) → i < S → All (Inside i) (functionNumbersIn i)
+  unfolding functionNumbersIn
   listed-in rise i l = go (isKind Kind.Program (kindOf (sec i))) (isKind Kind.Text (kindOf (sec i)))
     where
       go : (b c : Bool) → All (Inside i) (cond b (programMembers e (tab sec S) at Y (sec i)) (cond c (walkNumbers e (tab sec S) at Y (sec i) (length (sec i .bytes)) 0) []))
@@ -167,8 +167,8 @@ module _ (e : Endianness) (sec : ℕ → Section) (S : ℕ) (at : ℕ → Symbol
       let q : home e sec S at Y j ≡ i = h .held .home-of in
       ap (λ k. functionKey (functionOf k j)) q ∙ function-key i j ∙ ap (λ k. k ∷ at j .address ∷ []) (lies-number i j (h .held .lies))
 
-  functions-in : Rising e sec S at Y → (i : ℕ) → i < S → functionsOf (whole e sec S at Y) (sec i) ≡ map functionIn (functionsIn i)
-  unfolding functionsOf functionsIn walkOf
+  functions-in : IndexesRising e sec S at Y → (i : ℕ) → i < S → functionsOf (whole e sec S at Y) (sec i) ≡ map functionIn (functionNumbersIn i)
+  unfolding functionsOf functionNumbersIn walkOf
   functions-in rise i l = go (isKind Kind.Program (kindOf (sec i))) (isKind Kind.Text (kindOf (sec i))) refl
     where
       o : Object
@@ -186,16 +186,16 @@ module _ (e : Endianness) (sec : ℕ → Section) (S : ℕ) (at : ℕ → Symbol
           (inside-walk rise i l (length (sec i .bytes)) 0) (λ j r. rw (r .home-of, q))
       go false false q = refl
 
-  pub functions-are : Rising e sec S at Y
-      → catalogueOf (whole e sec S at Y) .functions ≡ map functionIn (tableOf (λ j. rawSection (at j) ∷ at j .address ∷ []) (rows functionsIn S))
+  pub functions-are : IndexesRising e sec S at Y
+      → catalogueOf (whole e sec S at Y) .functions ≡ map functionIn (tableOf (λ j. rawSection (at j) ∷ at j .address ∷ []) (rows functionNumbersIn S))
   unfolding catalogueOf
   functions-are rise =
-      ap (tableOf functionKey) (each-tab (functionsOf (whole e sec S at Y)) sec S ∙ rows-ext _ _ S (functions-in rise) ∙ rows-map functionIn functionsIn S)
-      ∙ table-map functionKey functionIn (rows functionsIn S)
-      ∙ ap (map functionIn) (table-on (λ j. functionKey (functionIn j)) (λ j. rawSection (at j) ∷ at j .address ∷ []) (rows functionsIn S) (λ j m. key-is j (all-∈ Listed j (rows functionsIn S) all m)))
+      ap (tableOf functionKey) (each-tab (functionsOf (whole e sec S at Y)) sec S ∙ rows-ext _ _ S (functions-in rise) ∙ rows-map functionIn functionNumbersIn S)
+      ∙ table-map functionKey functionIn (rows functionNumbersIn S)
+      ∙ ap (map functionIn) (table-on (λ j. functionKey (functionIn j)) (λ j. rawSection (at j) ∷ at j .address ∷ []) (rows functionNumbersIn S) (λ j m. key-is j (all-∈ Listed j (rows functionNumbersIn S) all m)))
     where
-      all : All Listed (rows functionsIn S)
-      all = all-rows Listed functionsIn S (λ i l. as-listed i (functionsIn i) (listed-in rise i l))
+      all : All Listed (rows functionNumbersIn S)
+      all = all-rows Listed functionNumbersIn S (λ i l. as-listed i (functionNumbersIn i) (listed-in rise i l))
 
   -- ---- maps, by what they are made from
 
@@ -212,19 +212,19 @@ module _ (e : Endianness) (sec : ℕ → Section) (S : ℕ) (at : ℕ → Symbol
   mapIn n = mapOf (mapSourceOf S n)
 
   -- its name
-  abbrev pub sourceName : MapSource → List ℕ
-  sourceName (MapSource.Section i) = sec i .name
-  sourceName (MapSource.Symbol j) = at j .name
+  abbrev pub sourceNameBytes : MapSource → List ℕ
+  sourceNameBytes (MapSource.Section i) = sec i .name
+  sourceNameBytes (MapSource.Symbol j) = at j .name
 
-  abbrev pub mapName : ℕ → List ℕ
-  mapName n = sourceName (mapSourceOf S n)
+  abbrev pub mapNameOfNumber : ℕ → List ℕ
+  mapNameOfNumber n = sourceNameBytes (mapSourceOf S n)
 
-  pub name-of-map : (s : MapSource) → mapKey (mapOf s) ≡ sourceName s
+  pub name-of-map : (s : MapSource) → mapKey (mapOf s) ≡ sourceNameBytes s
   unfolding dataMap legacyMap
   name-of-map (MapSource.Section i) = refl
   name-of-map (MapSource.Symbol j) = refl
 
-  maps-in : Rising e sec S at Y → (i : ℕ) → i < S → mapsOf (whole e sec S at Y) (sec i) ≡ map mapIn (mapsIn i)
+  maps-in : IndexesRising e sec S at Y → (i : ℕ) → i < S → mapsOf (whole e sec S at Y) (sec i) ≡ map mapIn (mapsIn i)
   unfolding mapsOf mapsIn
   maps-in rise i l = go (isKind Kind.Maps (kindOf (sec i))) (isData (kindOf (sec i)))
     where
@@ -246,9 +246,9 @@ module _ (e : Endianness) (sec : ℕ → Section) (S : ℕ) (at : ℕ → Symbol
       go false true = rw (number-source S (MapSource.Section i) l)
       go false false = refl
 
-  pub maps-are : Rising e sec S at Y → catalogueOf (whole e sec S at Y) .maps ≡ map mapIn (tableOf mapName (rows mapsIn S))
+  pub maps-are : IndexesRising e sec S at Y → catalogueOf (whole e sec S at Y) .maps ≡ map mapIn (tableOf mapNameOfNumber (rows mapsIn S))
   unfolding catalogueOf
   maps-are rise =
       ap (tableOf mapKey) (each-tab (mapsOf (whole e sec S at Y)) sec S ∙ rows-ext _ _ S (maps-in rise) ∙ rows-map mapIn mapsIn S)
       ∙ table-map mapKey mapIn (rows mapsIn S)
-      ∙ ap (map mapIn) (table-on (λ n. mapKey (mapIn n)) mapName (rows mapsIn S) (λ n m. name-of-map (mapSourceOf S n)))
+      ∙ ap (map mapIn) (table-on (λ n. mapKey (mapIn n)) mapNameOfNumber (rows mapsIn S) (λ n m. name-of-map (mapSourceOf S n)))

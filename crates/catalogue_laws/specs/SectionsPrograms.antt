@@ -73,8 +73,8 @@ module _ (e : Endianness) (sec : ℕ → Section) (S : ℕ) (at : ℕ → Symbol
   abbrev pub whole : Object
   whole = objectBy e (tab sec S) at Y
 
-  abbrev pub Rising : Type 0
-  Rising = (i j : ℕ) → i < j → j < S → sec i .index .0 < sec j .index .0
+  abbrev pub IndexesRising : Type 0
+  IndexesRising = (i j : ℕ) → i < j → j < S → sec i .index .0 < sec j .index .0
 
   -- the number of the section that has an index
   unfoldable pub owner : ℕ → Option ℕ
@@ -105,7 +105,7 @@ module _ (e : Endianness) (sec : ℕ → Section) (S : ℕ) (at : ℕ → Symbol
       (λ r. find-append p (upTo n) (n ∷ []) ∙ rw (found-up p n i r q h))
       (eq-or-lt-of-le (le-of-suc-le-suc l))
 
-  pub owner-is : Rising → (i : ℕ) → i < S → owner (sec i .index .0) ≡ some i
+  pub owner-is : IndexesRising → (i : ℕ) → i < S → owner (sec i .index .0) ≡ some i
   unfolding owner
   owner-is rise i l =
       found-up (λ k. eqb (sec k .index .0) (sec i .index .0)) S i l (eq-eqb (sec i .index .0) (sec i .index .0) refl)
@@ -115,18 +115,18 @@ module _ (e : Endianness) (sec : ℕ → Section) (S : ℕ) (at : ℕ → Symbol
   abbrev pub home : ℕ → ℕ
   home j = maybe (at j .section) 0 (λ k. maybe (owner (k .0)) 0 (λ i. i))
 
-  pub home-is : Rising → (i j : ℕ) → i < S → liesIn (sec i .index) (at j .section) ≡ true → home j ≡ i
+  pub home-is : IndexesRising → (i j : ℕ) → i < S → liesIn (sec i .index) (at j .section) ≡ true → home j ≡ i
   home-is rise i j l h = go (at j .section) h
     where
       go : (o : Option SectionIndex) → liesIn (sec i .index) o ≡ true → maybe o 0 (λ k. maybe (owner (k .0)) 0 (λ m. m)) ≡ i
       go none q = true-not-false (sym q)
       go (some k) q = let r : sec i .index .0 ≡ k .0 = eqb-true _ _ q in rw (← r, owner-is rise i l)
 
-  pub members-home : Rising → (i : ℕ) → i < S → All (λ j. home j ≡ i) (members e (tab sec S) at Y (sec i))
+  pub members-home : IndexesRising → (i : ℕ) → i < S → All (λ j. home j ≡ i) (members e (tab sec S) at Y (sec i))
   unfolding members
   members-home rise i l = all-keep (λ j. home j ≡ i) (λ j. liesIn (sec i .index) (at j .section)) (upTo Y) (λ j h. home-is rise i j l h)
 
-  pub programs-home : Rising → (i : ℕ) → i < S → All (λ j. home j ≡ i) (programMembers e (tab sec S) at Y (sec i))
+  pub programs-home : IndexesRising → (i : ℕ) → i < S → All (λ j. home j ≡ i) (programMembers e (tab sec S) at Y (sec i))
   unfolding programMembers
   programs-home rise i l = all-kept (λ j. home j ≡ i) _ (members e (tab sec S) at Y (sec i)) (members-home rise i l)
 
@@ -164,7 +164,7 @@ module _ (e : Endianness) (sec : ℕ → Section) (S : ℕ) (at : ℕ → Symbol
   abbrev pub Named : Type 0
   Named = (i : ℕ) → i < S → isKind Kind.Program (kindOf (sec i)) ≡ true → isSome (programOf (sec i .name)) ≡ true
 
-  pub programs-are : Rising → Named → catalogueOf whole .programs ≡ map programIn (tableOf (λ j. at j .name) (rows programsIn S))
+  pub programs-are : IndexesRising → Named → catalogueOf whole .programs ≡ map programIn (tableOf (λ j. at j .name) (rows programsIn S))
   unfolding catalogueOf programsOf programsIn programAt
   programs-are rise named =
       ap (tableOf programKey) (each-tab (programsOf whole) sec S ∙ rows-ext _ _ S one ∙ rows-map programIn programsIn S)

@@ -14,7 +14,7 @@ use Rattle.model.specs.ProgramName.{programOf}
 use Rattle.model.specs.SectionKind.{isKind, kindOf}
 use Rattle.model.specs.Table.{tableOf}
 use Rattle.catalogue_laws.specs.ByNumber.{rawSection}
-use Rattle.catalogue_laws.specs.FunctionsMaps.{functionsIn, functionIn, functions-are, mapsIn, mapIn, sourceName, mapName, maps-are}
+use Rattle.catalogue_laws.specs.FunctionsMaps.{functionNumbersIn, functionIn, functions-are, mapsIn, mapIn, sourceNameBytes, mapNameOfNumber, maps-are}
 use Rattle.catalogue_laws.specs.Relocations.{keeps, relocationsIn, relocations-are}
 use Rattle.catalogue_laws.specs.SectionsPrograms.{home, sectionsIn, entryIn, sections-are, programsIn, programIn, programs-are}
 use Rattle.records.specs.declared.MapSource.{MapSource}
@@ -43,7 +43,7 @@ module _ (d t : List ℕ) (v : View) where
   programsFrom = programsIn order (sectionIn d t v) (v .sections) (symbolIn d t v) (v .symbols)
 
   abbrev pub functionsFrom : ℕ → List ℕ
-  functionsFrom = functionsIn order (sectionIn d t v) (v .sections) (symbolIn d t v) (v .symbols)
+  functionsFrom = functionNumbersIn order (sectionIn d t v) (v .sections) (symbolIn d t v) (v .symbols)
 
   abbrev pub mapsFrom : ℕ → List ℕ
   mapsFrom = mapsIn order (sectionIn d t v) (v .sections) (symbolIn d t v) (v .symbols)
@@ -106,11 +106,11 @@ module _ (d t : List ℕ) (v : View) where
   unfolding keyOf
   address-key = λ k j. (let e : symbolAt d t v j .section .0 ≡ rawSection (symbolIn d t v j) = sym (raw-is d t v (symbolAt d t v j)) in e k) ∷ address-is j k ∷ []
 
-  map-name-key : keyOf By.MapName d t v ≡ mapName order (sectionIn d t v) (v .sections) (symbolIn d t v) (v .symbols)
+  map-name-key : keyOf By.MapName d t v ≡ mapNameOfNumber order (sectionIn d t v) (v .sections) (symbolIn d t v) (v .symbols)
   unfolding keyOf mapNameAt sectionFrom symbolFrom
   map-name-key = λ k n. go (mapSourceOf (v .sections) n) k
     where
-      go : (s : MapSource) → nameIn d v (nameAt d t v s) ≡ sourceName order (sectionIn d t v) (v .sections) (symbolIn d t v) (v .symbols) s
+      go : (s : MapSource) → nameIn d v (nameAt d t v s) ≡ sourceNameBytes order (sectionIn d t v) (v .sections) (symbolIn d t v) (v .symbols) s
       go (MapSource.Section i) = refl
       go (MapSource.Symbol j) = refl
 

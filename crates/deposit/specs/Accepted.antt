@@ -27,7 +27,7 @@ use Rattle.records.specs.Records.{namesAt, dataAt, headAt, depositSection, depo
 use Rattle.object_view.specs.declared.View.{View}
 use Rattle.records.specs.View.{depositView}
 use Rattle.deposit_rules.specs.Parts.{head-stream, parts-sections, parts-symbols, parts-relocations, parts-bytes}
-use Rattle.deposit_rules.specs.Rules.{ruled, nameByte, nameAt, nameOkAt, sectionOkAt, symbolOkAt, sectionsOk, symbolsOk, relocationsOk, restOk, recordsOkAt, someBtf, ruled-all, name-cut}
+use Rattle.deposit_rules.specs.Rules.{ruled, nameByte, streamName, nameOkAt, sectionOkAt, symbolOkAt, sectionsOk, symbolsOk, relocationsOk, restOk, recordsOkAt, someBtf, ruled-all, name-cut}
 use Rattle.deposit_rules.specs.declared.Checked.{Checked}
 use Rattle.object_view.specs.declared.Opened.{Opened}
 use Rattle.deposit.specs.Open.{openedOf, streamLength, streamOkAt, checkedStream, Framed, framed, btf, openedBy, opened-1, opened-checked}
@@ -41,24 +41,24 @@ module _ (d : List ℕ) (h : Head) where
   unfoldable pub relocsIn : Extent → List Reloc
   relocsIn e = tab (λ k. relocOf (depositRelocation d h (e .at + k))) (e .length)
 
-  unfoldable pub sectionIn : SectionRecord → Section
-  sectionIn r =
+  unfoldable pub streamSection : SectionRecord → Section
+  streamSection r =
       record {
         index = r .index;
         text = eqb (r .mark) 1;
-        name = nameAt d h (r .name);
+        name = streamName d h (r .name);
         address = r .address;
         size = r .size;
         bytes = dataOf (r .bytes);
         relocs = relocsIn (r .relocations);
       }
 
-  unfoldable pub symbolIn : SymbolRecord → Symbol
-  symbolIn r =
+  unfoldable pub streamSymbol : SymbolRecord → Symbol
+  streamSymbol r =
       record {
         index = r .index;
         section = unlessNone (r .section .0) (r .section);
-        name = nameAt d h (r .name);
+        name = streamName d h (r .name);
         address = r .address;
         size = r .size;
         kind = symbolKind (r .kind);
@@ -70,7 +70,7 @@ module _ (d : List ℕ) (h : Head) where
   pub record NameRules (e : Extent) : Type 0 where
     pub short : e .length ≤ 65535
     pub inside : e .at + e .length ≤ h .names
-    pub letters : all nameByte (nameAt d h e) ≡ true
+    pub letters : all nameByte (streamName d h e) ≡ true
 
   pub record SectionRules (r : SectionRecord) : Type 0 where
     pub mark : r .mark ≤ 1
@@ -87,7 +87,7 @@ module _ (d : List ℕ) (h : Head) where
 
   -- ---- all of it
 
-  pub record Accepted : Type 0 where
+  pub record AcceptedStream : Type 0 where
     pub head : h ≡ headAt d
     pub frame : Framed d
     -- the stream lies in the blocks, and the deposit's indexes reach it
@@ -107,8 +107,8 @@ module _ (d : List ℕ) (h : Head) where
     pub symbols-rise : (i j : ℕ) → i < j → j < h .symbols → depositSymbol d h i .index .0 < depositSymbol d h j .index .0
     -- the object
     pub object-order : objectOf d .order ≡ byteOrder (h .order)
-    pub object-sections : objectOf d .sections ≡ tab (λ i. sectionIn (depositSection d i)) (h .sections)
-    pub object-symbols : objectOf d .symbols ≡ tab (λ i. symbolIn (depositSymbol d h i)) (h .symbols)
+    pub object-sections : objectOf d .sections ≡ tab (λ i. streamSection (depositSection d i)) (h .sections)
+    pub object-symbols : objectOf d .symbols ≡ tab (λ i. streamSymbol (depositSymbol d h i)) (h .symbols)
     pub no-btf : hasBtf (objectOf d) ≡ false
     pub no-refusal : depositRefusal d ≡ none
 
@@ -164,8 +164,8 @@ module _ (d : List ℕ) (h : Head) where
   name-rules : (e : Extent) → nameOkAt d h e ≡ true → NameRules d h e
   unfolding nameOkAt
   name-rules e t =
-      let s = both (leb (e .length) 65535) (within e (h .names) && all nameByte (nameAt d h e)) t in
-      let u = both (within e (h .names)) (all nameByte (nameAt d h e)) (s .1) in
+      let s = both (leb (e .length) 65535) (within e (h .names) && all nameByte (streamName d h e)) t in
+      let u = both (within e (h .names)) (all nameByte (streamName d h e)) (s .1) in
       record { short = leb-true _ _ (s .0); inside = leb-true _ _ (u .0); letters = u .1 }
 
   section-rules-of : (r : SectionRecord) → sectionOkAt d h r ≡ true → SectionRules d h r
@@ -220,8 +220,8 @@ module _ (d : List ℕ) (h : Head) where
         ∙ ap (map relocOf) (part-tab (depositRelocation d h) (h .relocations) (e .at) (e .length) l)
         ∙ map-tab (λ k. depositRelocation d h (e .at + k)) (e .length) relocOf
 
-    section-states : (r : SectionRecord) → SectionRules d h r → sectionOf parts r ≡ sectionIn d h r
-    unfolding sectionOf sectionIn
+    section-states : (r : SectionRecord) → SectionRules d h r → sectionOf parts r ≡ streamSection d h r
+    unfolding sectionOf streamSection
     section-states r s = λ i.
         record {
           index = r .index;
@@ -233,8 +233,8 @@ module _ (d : List ℕ) (h : Head) where
           relocs = relocs-cut (r .relocations) (s .relocations) i;
         }
 
-    symbol-states : (r : SymbolRecord) → SymbolRules d h r → symbolOf parts r ≡ symbolIn d h r
-    unfolding symbolOf symbolIn
+    symbol-states : (r : SymbolRecord) → SymbolRules d h r → symbolOf parts r ≡ streamSymbol d h r
+    unfolding symbolOf streamSymbol
     symbol-states r s = λ i.
         record {
           index = r .index;
@@ -247,20 +247,20 @@ module _ (d : List ℕ) (h : Head) where
         }
 
     stated-sections : ((i : ℕ) → i < h .sections → SectionRules d h (depositSection d i))
-        → statedBy parts .sections ≡ tab (λ i. sectionIn d h (depositSection d i)) (h .sections)
+        → statedBy parts .sections ≡ tab (λ i. streamSection d h (depositSection d i)) (h .sections)
     unfolding statedBy
     stated-sections s =
         ap (map (sectionOf parts)) (parts-sections d whole h inside)
         ∙ map-tab (depositSection d) (h .sections) (sectionOf parts)
-        ∙ tab-ext (λ i. sectionOf parts (depositSection d i)) (λ i. sectionIn d h (depositSection d i)) (h .sections) (λ i l. section-states (depositSection d i) (s i l))
+        ∙ tab-ext (λ i. sectionOf parts (depositSection d i)) (λ i. streamSection d h (depositSection d i)) (h .sections) (λ i l. section-states (depositSection d i) (s i l))
 
     stated-symbols : ((i : ℕ) → i < h .symbols → SymbolRules d h (depositSymbol d h i))
-        → statedBy parts .symbols ≡ tab (λ i. symbolIn d h (depositSymbol d h i)) (h .symbols)
+        → statedBy parts .symbols ≡ tab (λ i. streamSymbol d h (depositSymbol d h i)) (h .symbols)
     unfolding statedBy
     stated-symbols s =
         ap (map (symbolOf parts)) (parts-symbols d whole h inside)
         ∙ map-tab (depositSymbol d h) (h .symbols) (symbolOf parts)
-        ∙ tab-ext (λ i. symbolOf parts (depositSymbol d h i)) (λ i. symbolIn d h (depositSymbol d h i)) (h .symbols) (λ i l. symbol-states (depositSymbol d h i) (s i l))
+        ∙ tab-ext (λ i. symbolOf parts (depositSymbol d h i)) (λ i. streamSymbol d h (depositSymbol d h i)) (h .symbols) (λ i l. symbol-states (depositSymbol d h i) (s i l))
 
   stated-order : statedBy (partsFrom h (streamOf d)) .order ≡ byteOrder (h .order)
   unfolding statedBy partsFrom
@@ -297,7 +297,7 @@ fine true true e = let z : _≡_ {A = ℕ} 0 1 = cc in absurd (omega arith)
 fine true false e = (refl, refl)
 fine false b e = let z : _≡_ {A = ℕ} 0 1 = cc in absurd (omega arith)
 
-accepted-by : (d : List ℕ) (h : Head) → Framed d → headAt d ≡ h → streamOkAt d h ≡ true → someBtf d h ≡ false → depositRefusal d ≡ none → Accepted d h
+accepted-by : (d : List ℕ) (h : Head) → Framed d → headAt d ≡ h → streamOkAt d h ≡ true → someBtf d h ≡ false → depositRefusal d ≡ none → AcceptedStream d h
 unfolding streamOkAt recordsOkAt headOk sectionsOk symbolsOk relocationsOk
 accepted-by d h f e t b n =
     let s₀ = both (headOk h) (leb (endOf h) (streamLength d) && (ltb (streamLength d) (endOf h + 508) && recordsOkAt d h)) t in
@@ -340,12 +340,12 @@ accepted-by d h f e t b n =
     }
 
 -- its view is that of its head
-pub accepted : (d : List ℕ) (v : View) → openedOf d ≡ Opened.View v → (v ≡ depositView (headAt d)) × Accepted d (headAt d)
+pub accepted : (d : List ℕ) (v : View) → openedOf d ≡ Opened.View v → (v ≡ depositView (headAt d)) × AcceptedStream d (headAt d)
 unfolding checkedStream
 accepted d v e = go (frameOk d) refl
   where
     opened : frameOk d ≡ true → (c : Checked) → checkedStream d (headAt d) ≡ c → openedBy c (headAt d) ≡ Opened.View v
-        → (v ≡ depositView (headAt d)) × Accepted d (headAt d)
+        → (v ≡ depositView (headAt d)) × AcceptedStream d (headAt d)
     opened f Checked.Broken p q = let z : _≡_ {A = ℕ} 0 1 = cc in absurd (omega arith)
     opened f Checked.Btf p q = let z : _≡_ {A = ℕ} 0 1 = cc in absurd (omega arith)
     opened f Checked.Fine p q =
@@ -354,27 +354,27 @@ accepted d v e = go (frameOk d) refl
         let s = fine (streamOkAt d (headAt d)) (someBtf d (headAt d)) p in
         (g, accepted-by d (headAt d) (framed d f) refl (s .0) (s .1) (passed d v e))
 
-    go : (b : Bool) → frameOk d ≡ b → (v ≡ depositView (headAt d)) × Accepted d (headAt d)
+    go : (b : Bool) → frameOk d ≡ b → (v ≡ depositView (headAt d)) × AcceptedStream d (headAt d)
     go true f = opened f (checkedStream d (headAt d)) refl (sym (opened-checked d f) ∙ e)
     go false f = let p = sym (opened-1 d f) ∙ e in let z : _≡_ {A = ℕ} 0 1 = cc p in absurd (omega arith)
 
 -- ---- to cite
 
-module _ (d : List ℕ) (h : Head) (a : Accepted d h) where
+module _ (d : List ℕ) (h : Head) (a : AcceptedStream d h) where
   pub count-sections : length (objectOf d .sections) ≡ h .sections
-  count-sections = ap length (a .object-sections) ∙ length-tab (λ i. sectionIn d h (depositSection d i)) (h .sections)
+  count-sections = ap length (a .object-sections) ∙ length-tab (λ i. streamSection d h (depositSection d i)) (h .sections)
 
   pub count-symbols : length (objectOf d .symbols) ≡ h .symbols
-  count-symbols = ap length (a .object-symbols) ∙ length-tab (λ i. symbolIn d h (depositSymbol d h i)) (h .symbols)
+  count-symbols = ap length (a .object-symbols) ∙ length-tab (λ i. streamSymbol d h (depositSymbol d h i)) (h .symbols)
 
   -- the object's section and symbol i
-  pub object-section : (i : ℕ) (x : Section) → i < h .sections → getD (objectOf d .sections) i x ≡ sectionIn d h (depositSection d i)
+  pub object-section : (i : ℕ) (x : Section) → i < h .sections → getD (objectOf d .sections) i x ≡ streamSection d h (depositSection d i)
   object-section i x l =
-      ap (λ (l : List Section). getD l i x) (a .object-sections) ∙ getD-tab (λ i. sectionIn d h (depositSection d i)) (h .sections) i x l
+      ap (λ (l : List Section). getD l i x) (a .object-sections) ∙ getD-tab (λ i. streamSection d h (depositSection d i)) (h .sections) i x l
 
-  pub object-symbol : (i : ℕ) (x : Symbol) → i < h .symbols → getD (objectOf d .symbols) i x ≡ symbolIn d h (depositSymbol d h i)
+  pub object-symbol : (i : ℕ) (x : Symbol) → i < h .symbols → getD (objectOf d .symbols) i x ≡ streamSymbol d h (depositSymbol d h i)
   object-symbol i x l =
-      ap (λ (l : List Symbol). getD l i x) (a .object-symbols) ∙ getD-tab (λ i. symbolIn d h (depositSymbol d h i)) (h .symbols) i x l
+      ap (λ (l : List Symbol). getD l i x) (a .object-symbols) ∙ getD-tab (λ i. streamSymbol d h (depositSymbol d h i)) (h .symbols) i x l
 
   -- names and data lie inside the deposit
   pub name-placed : (e : Extent) → NameRules d h e → place 4 (namesAt h + e .at + e .length) ≤ length d

@@ -12,9 +12,9 @@ use Rattle.records.specs.View.{depositView, sectionAt, symbolAt}
 use Rattle.records.specs.Readable.{Readable}
 use Rattle.object_view.specs.declared.Opened.{Opened}
 use Rattle.deposit.specs.Open.{openedOf}
-use Rattle.deposit.specs.Accepted.{Accepted, accepted, name-placed, data-placed}
+use Rattle.deposit.specs.Accepted.{AcceptedStream, accepted, name-placed, data-placed}
 
-pub readable-accepted : (d t : List ℕ) (h : Head) → Accepted d h → Readable d t (depositView h)
+pub readable-accepted : (d t : List ℕ) (h : Head) → AcceptedStream d h → Readable d t (depositView h)
 unfolding endOf depositView sectionAt symbolAt depositSection depositSymbol
 readable-accepted d t h a =
     let inside : 32 + 48 * h .sections + 40 * h .symbols + 16 * h .relocations + h .names + h .bytes ≤ length d / 512 * 508 = a .inside in

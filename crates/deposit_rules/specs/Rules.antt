@@ -77,8 +77,8 @@ abbrev pub nameByte : ℕ → Bool
 nameByte b = leb 1 b && leb b 127
 
 module _ (d : List ℕ) (h : Head) where
-  abbrev pub nameAt : Extent → List ℕ
-  nameAt e = bytesAt d 4 (namesAt h + e .at) (e .length)
+  abbrev pub streamName : Extent → List ℕ
+  streamName e = bytesAt d 4 (namesAt h + e .at) (e .length)
 
   -- each byte of the table may stand in a name
   unfoldable pub namesOk : Bool
@@ -89,7 +89,7 @@ module _ (d : List ℕ) (h : Head) where
   Clean b = b ≡ true → namesOk ≡ true
 
   unfoldable pub nameOkAt : Extent → Bool
-  nameOkAt e = leb (e .length) 65535 && (within e (h .names) && all nameByte (nameAt e))
+  nameOkAt e = leb (e .length) 65535 && (within e (h .names) && all nameByte (streamName e))
 
   unfoldable pub sectionOkAt : SectionRecord → Bool
   sectionOkAt r =
@@ -108,7 +108,7 @@ module _ (d : List ℕ) (h : Head) where
       && eqb (r .reserved) 0)))
 
   abbrev pub isBtf : SectionRecord → Bool
-  isBtf r = same (ascii ".BTF") (nameAt (r .name))
+  isBtf r = same (ascii ".BTF") (streamName (r .name))
 
   -- ---- all records
 
@@ -145,7 +145,7 @@ module _ {A : Type 0} (p : A → Bool) where
   all-take (suc n) [] e = refl
   all-take (suc n) (x ∷ xs) e = let s = and-eq-true-iff (p x) (all p xs) .0 e in and-eq-true-iff (p x) (all p (take n xs)) .1 (s .0, all-take n xs (s .1))
 
-pub name-inside : (d : List ℕ) (h : Head) (e : Extent) → within e (h .names) ≡ true → namesOk d h ≡ true → all nameByte (nameAt d h e) ≡ true
+pub name-inside : (d : List ℕ) (h : Head) (e : Extent) → within e (h .names) ≡ true → namesOk d h ≡ true → all nameByte (streamName d h e) ≡ true
 unfolding namesOk
 name-inside d h e w k =
     subst (λ bs. all nameByte bs ≡ true) (part-bytes d 4 (namesAt h) (h .names) (e .at) (e .length) (leb-true _ _ w))
@@ -161,7 +161,7 @@ module _ (d : List ℕ) (whole : length d % 512 ≡ 0) (h : Head) (inside : endO
   abbrev parts : Stream
   parts = partsFrom h (streamOf d)
 
-  pub name-cut : (e : Extent) → e .at + e .length ≤ h .names → cutOut e (partsFrom h (streamOf d) .names) ≡ nameAt d h e
+  pub name-cut : (e : Extent) → e .at + e .length ≤ h .names → cutOut e (partsFrom h (streamOf d) .names) ≡ streamName d h e
   name-cut e l = ap (cutOut e) (parts-names d whole h inside) ∙ part-bytes d 4 (namesAt h) (h .names) (e .at) (e .length) l
 
   name-ok : (e : Extent) → nameOk parts e ≡ nameOkAt d h e
@@ -169,7 +169,7 @@ module _ (d : List ℕ) (whole : length d % 512 ≡ 0) (h : Head) (inside : endO
   name-ok e = ap (λ (b : Bool). leb (e .length) 65535 && b) (go (within e (h .names)) refl)
     where
       go : (b : Bool) → within e (h .names) ≡ b
-          → (b && all nameByte (cutOut e (parts .names))) ≡ (b && all nameByte (nameAt d h e))
+          → (b && all nameByte (cutOut e (parts .names))) ≡ (b && all nameByte (streamName d h e))
       go true t = ap (all nameByte) (name-cut e (leb-true _ _ t))
       go false t = refl
 
@@ -212,8 +212,8 @@ module _ (d : List ℕ) (whole : length d % 512 ≡ 0) (h : Head) (inside : endO
   name-within : (e : Extent) → nameOkAt d h e ≡ true → e .at + e .length ≤ h .names
   unfolding nameOkAt
   name-within e t =
-      let s = and-eq-true-iff (leb (e .length) 65535) (within e (h .names) && all nameByte (nameAt d h e)) .0 t in
-      leb-true _ _ (and-eq-true-iff (within e (h .names)) (all nameByte (nameAt d h e)) .0 (s .1) .0)
+      let s = and-eq-true-iff (leb (e .length) 65535) (within e (h .names) && all nameByte (streamName d h e)) .0 t in
+      leb-true _ _ (and-eq-true-iff (within e (h .names)) (all nameByte (streamName d h e)) .0 (s .1) .0)
 
   section-name : (r : SectionRecord) → sectionOkAt d h r ≡ true → nameOkAt d h (r .name) ≡ true
   unfolding sectionOkAt

@@ -19,8 +19,8 @@ use Rattle.object_view.specs.declared.View.{View}
 use Rattle.object_view.specs.NoIndex.{noIndex, isNone}
 
 -- the number of n bytes at p, 0 where the file ends before them
-unfoldable pub numberAt : Endianness → List ℕ → ℕ → ℕ → ℕ
-numberAt e d p n = cond (leb (p + n) (length d)) (number e (part d p n)) 0
+unfoldable pub fieldAt : Endianness → List ℕ → ℕ → ℕ → ℕ
+fieldAt e d p n = cond (leb (p + n) (length d)) (number e (part d p n)) 0
 
 unfoldable pub indexAt : List ℕ → ℕ → ℕ
 indexAt t k = getD t k 0
@@ -66,7 +66,7 @@ sectionIndexAt i = record { 0 = (i + 1) % 4294967296 }
 
 module _ (d : List ℕ) (v : View) where
   abbrev pub num : ℕ → ℕ → ℕ
-  num p n = numberAt (v .order) d p n
+  num p n = fieldAt (v .order) d p n
 
   abbrev pub headerAt : ℕ → ℕ
   headerAt i = v .at .sections + 64 * i

@@ -4,7 +4,7 @@ ghost use Prim.Native.Nat.{_+_, _*_, _%_, _^_, _<_, _≤_};
 ghost use lib.ListN.{length, getD};
 ghost use Rattle.model.specs.Bytes.{part};
 ghost use Rattle.model.specs.LicenceVersion.{number};
-ghost use Rattle.elf_records.specs.Elf.{numberAt, num, placeOf, indexAt, markOf, dataRange, sectionOrNone, kindOfInfo, definitionOf};
+ghost use Rattle.elf_records.specs.Elf.{fieldAt, num, placeOf, indexAt, markOf, dataRange, sectionOrNone, kindOfInfo, definitionOf};
 ghost use Rattle.elf_records.specs.Elf.{symbolOrNone, targetOf, widthOf, sectionIndexAt, sectionNameAt, symbolSectionAt, symbolNameAt};
 ghost use Rattle.elf_records.specs.Elf.{symbolAddressAt, relocationOffsetAt, relocationSymbolAt, elfSection, elfSymbol, elfRelocation};
 use model::Endianness;
@@ -72,7 +72,7 @@ fn u8_at(d: &[u8], p: usize) -> u8
 
 fn u16_at(d: &[u8], order: Endianness, p: usize) -> u32
     requires { ⌜ p < 2 ^ 62 ⌝ }
-    ensures { λ r. ⌜ r ≡ numberAt order (now (d .entry)) p 2 ⌝ }
+    ensures { λ r. ⌜ r ≡ fieldAt order (now (d .entry)) p 2 ⌝ }
 {
     if p + 2 <= d.len() {
         two(d, order, p)
@@ -83,7 +83,7 @@ fn u16_at(d: &[u8], order: Endianness, p: usize) -> u32
 
 fn u32_at(d: &[u8], order: Endianness, p: usize) -> u32
     requires { ⌜ p < 2 ^ 62 ⌝ }
-    ensures { λ r. ⌜ r ≡ numberAt order (now (d .entry)) p 4 ⌝ }
+    ensures { λ r. ⌜ r ≡ fieldAt order (now (d .entry)) p 4 ⌝ }
 {
     if p + 4 <= d.len() {
         four_in(d, order, p)
@@ -94,7 +94,7 @@ fn u32_at(d: &[u8], order: Endianness, p: usize) -> u32
 
 fn u64_at(d: &[u8], order: Endianness, p: usize) -> u64
     requires { ⌜ p < 2 ^ 62 ⌝ }
-    ensures { λ r. ⌜ r ≡ numberAt order (now (d .entry)) p 8 ⌝ }
+    ensures { λ r. ⌜ r ≡ fieldAt order (now (d .entry)) p 8 ⌝ }
 {
     if p + 8 <= d.len() {
         eight_in(d, order, p)

@@ -29,24 +29,24 @@ zero-last d gap p (suc m) =
 
 module _ (d : List ℕ) (gap p : ℕ) where
   -- whether a zero stands among the first m bytes, from byte k on
-  abbrev pub front : ℕ → ℕ → Bool
-  front m k = hasZero (bytesAt d gap (p + k) (m - k))
+  abbrev pub zeroAmong : ℕ → ℕ → Bool
+  zeroAmong m k = hasZero (bytesAt d gap (p + k) (m - k))
 
   module _ (m : ℕ) where
-    pub front-start : hasZero (bytesAt d gap p m) ≡ front m 0
+    pub front-start : hasZero (bytesAt d gap p m) ≡ zeroAmong m 0
     front-start = let e : p + 0 ≡ p = omega arith in let f : m - 0 ≡ m = omega arith in rw (e, f)
 
-    front-step : (k : ℕ) → k < m → front m k ≡ (eqb (byteAt d gap (p + k)) 0 || front m (k + 1))
+    front-step : (k : ℕ) → k < m → zeroAmong m k ≡ (eqb (byteAt d gap (p + k)) 0 || zeroAmong m (k + 1))
     unfolding hasZero
     front-step k h = rw (bytes-first d gap p k m h)
 
-    pub front-zero : (k : ℕ) → k < m → byteAt d gap (p + k) ≡ 0 → front m k ≡ true
+    pub front-zero : (k : ℕ) → k < m → byteAt d gap (p + k) ≡ 0 → zeroAmong m k ≡ true
     front-zero k h e = front-step k h ∙ rw (eq-eqb _ _ e)
 
-    pub front-more : (k : ℕ) → k < m → (byteAt d gap (p + k) ≡ 0 → ⊥) → front m k ≡ front m (k + 1)
+    pub front-more : (k : ℕ) → k < m → (byteAt d gap (p + k) ≡ 0 → ⊥) → zeroAmong m k ≡ zeroAmong m (k + 1)
     front-more k h e = front-step k h ∙ rw (ne-eqb _ _ e)
 
-    pub front-end : (k : ℕ) → m ≤ k → front m k ≡ false
+    pub front-end : (k : ℕ) → m ≤ k → zeroAmong m k ≡ false
     unfolding hasZero
     front-end k h = rw (bytes-none d gap (p + k) k m h)
 

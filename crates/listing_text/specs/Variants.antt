@@ -60,10 +60,10 @@ names =
 abbrev first : List ℕ
 first = ascii "KRetProbe"
 
-abbrev pub nameAt : ℕ → List ℕ
-nameAt i = part letters (getD starts i 0) (getD starts (i + 1) 0 - getD starts i 0)
+abbrev pub variantNameAt : ℕ → List ℕ
+variantNameAt i = part letters (getD starts i 0) (getD starts (i + 1) 0 - getD starts i 0)
 
-names-are : tab nameAt 30 ≡ names
+names-are : tab variantNameAt 30 ≡ names
 unfolding tab
 names-are = refl
 
@@ -92,8 +92,8 @@ module _ (i : ℕ) (h : i < 30) where
   pub end-inside : getD starts (i + 1) 0 ≤ 275
   end-inside = leb-true _ _ (both-true (leb (getD starts i 0) (getD starts (i + 1) 0)) (leb (getD starts (i + 1) 0) 275) in-order .1)
 
-  name-is : nameAt i ≡ getD names i first
-  name-is = sym (getD-tab nameAt 30 i first h) ∙ ap (λ (l : List (List ℕ)). getD l i first) names-are
+  name-is : variantNameAt i ≡ getD names i first
+  name-is = sym (getD-tab variantNameAt 30 i first h) ∙ ap (λ (l : List (List ℕ)). getD l i first) names-are
 
 -- the name that a number stands for, whatever the values beside it
 all-named : (a b : ℕ) → tab (λ n. variantName (programFrom n a b)) 30 ≡ names
@@ -121,11 +121,11 @@ named n a b = go (ltb n 30) refl
 pub name-alone : (n a b : ℕ) → variantName (programFrom n a b) ≡ variantName (programFrom n 0 0)
 name-alone n a b = named n a b ∙ sym (named n 0 0)
 
-pub name-found : (n : ℕ) → nameAt (variantRow n) ≡ variantName (programFrom n 0 0)
+pub name-found : (n : ℕ) → variantNameAt (variantRow n) ≡ variantName (programFrom n 0 0)
 unfolding variantRow
 name-found n = go (ltb n 30) refl ∙ sym (named n 0 0)
   where
-    go : (b : Bool) → ltb n 30 ≡ b → nameAt (cond b n 0) ≡ getD names n first
+    go : (b : Bool) → ltb n 30 ≡ b → variantNameAt (cond b n 0) ≡ getD names n first
     go true e = name-is n (ltb-true _ _ e)
     go false e = let h : 30 ≤ n = ltb-false _ _ e in sym (List·getD-eq-default names first h)
 

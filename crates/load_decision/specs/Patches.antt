@@ -17,12 +17,12 @@ use Rattle.records.specs.Readable.{Readable}
 use Rattle.patch_maps.specs.Places.{mapPlaces}
 use Rattle.load_image.specs.Tables.{all-maps}
 use Rattle.object.specs.View.{objectIn}
-use Rattle.patch_checks.specs.Entries.{Named}
+use Rattle.patch_checks.specs.Entries.{NamesFound}
 use Rattle.patch_checks.specs.Checks.{Sited}
 
 -- nothing is made ready for an empty list
-pub record Ready (d t : List ℕ) (v : View) (entries maps : List ℕ) (n : ℕ) (order by : List ℕ) : Type 0 where
-  pub named : 0 < length entries → Named d t v entries order
+pub record ReadyToPatch (d t : List ℕ) (v : View) (entries maps : List ℕ) (n : ℕ) (order by : List ℕ) : Type 0 where
+  pub named : 0 < length entries → NamesFound d t v entries order
   pub sited : 0 < length entries → Sited d t v maps n by
 
 pub no-entries : (o : Object) (ms : List Map) (entries lent : List ℕ) → length entries ≡ 0 → patchRefusal o ms 1 (patchesOf entries lent) ≡ none
@@ -40,6 +40,6 @@ module _ (d t : List ℕ) (v : View) where
       record { readable = r; within = l; fits = all-maps d t v n maps l [] r ok e; places = places-front (take n maps) by rest f }
 
   -- a part of a longer list
-  pub ready-part : (entries maps : List ℕ) (n : ℕ) (order rest by : List ℕ) → length order ≡ v .symbols → Ready d t v entries maps n order by
-      → Ready d t v entries maps n (take (v .symbols) (order ++ rest)) by
+  pub ready-part : (entries maps : List ℕ) (n : ℕ) (order rest by : List ℕ) → length order ≡ v .symbols → ReadyToPatch d t v entries maps n order by
+      → ReadyToPatch d t v entries maps n (take (v .symbols) (order ++ rest)) by
   ready-part entries maps n order rest by l r = rw (take-at order rest (v .symbols) l) r

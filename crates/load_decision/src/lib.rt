@@ -13,7 +13,7 @@ ghost use Rattle.object.specs.View.{objectIn};
 ghost use Rattle.bytes_layout.specs.Parts.{catalogue};
 ghost use Rattle.bytes_layout.specs.Held.{Held};
 ghost use Rattle.load_decision.specs.Decided.{Fitted, Relocated};
-ghost use Rattle.load_decision.specs.Patches.{Ready};
+ghost use Rattle.load_decision.specs.Patches.{ReadyToPatch};
 ghost use Rattle.load_decision.specs.Room.{fitsBy};
 use bytes_layout::Places;
 use model::Refusal;
@@ -144,7 +144,7 @@ pub fn decide_patches(
         ≡ checkedOf
         (patchRefusal (objectIn (now (d .entry)) (now (t .entry)) v) (catalogue (now (d .entry)) (now (t .entry)) v .maps) 1
         (patchesOf (now (entries .entry)) (now (patches .entry)))))
-        × Ready (now (d .entry)) (now (t .entry)) v (now (entries .entry)) (now (maps .entry)) n (now (symbols .exit)) (now (by .exit))
+        × ReadyToPatch (now (d .entry)) (now (t .entry)) v (now (entries .entry)) (now (maps .entry)) n (now (symbols .exit)) (now (by .exit))
         ⌝ }
 {
     if entries.len() == 0 {

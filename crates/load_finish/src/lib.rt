@@ -74,7 +74,10 @@ fn rewrite_functions(
         × AllFit (now d) (now t) v (now functions) n
         × (start + length (each (codeAt (now d) (now t) v) (take n (now functions))) ≤ length (now out))
         ⌝ }
-    ensures { λ r. ⌜ Rewritten (codeAt (now (d .entry)) (now (t .entry)) v) (take n (now (functions .entry))) start (now (out .entry)) (now (out .exit)) ⌝ }
+    ensures { λ r.
+        ⌜
+        Rewritten (codeAt (now (d .entry)) (now (t .entry)) v) (take n (now (functions .entry))) start (now (out .entry)) (now (out .exit))
+        ⌝ }
 {
     let mut at = start;
     let mut k: usize = 0;

@@ -33,10 +33,10 @@ use Rattle.load_decision.specs.declared.Plan.{Plan}
 use Rattle.model.specs.declared.Room.{Room}
 use Rattle.load_decision.specs.Decided.{Planned}
 use Rattle.load_decision.specs.Outcomes.{goes}
-use Rattle.load_decision.specs.Patches.{Ready}
+use Rattle.load_decision.specs.Patches.{ReadyToPatch}
 use Rattle.load_decision.specs.Room.{spacious}
 use Rattle.load_fill.specs.Fills.{Fillable, summaryBy, summary-is}
-use Rattle.patch_checks.specs.Checks.{mapsOf}
+use Rattle.patch_checks.specs.Checks.{mapsOfNumbers}
 use Rattle.patch_data.specs.Ready.{Ready as PatchReady, sited-table, rows-front}
 use Rattle.rows_functions.specs.declared.Rows.{Rows}
 use Rattle.rows_functions.specs.Rows.{rowsMade}
@@ -182,11 +182,11 @@ image-of c a b e f = λ i. placed functionName functionCode functionRow (e i) (f
 -- for patching: symbols by name, maps by section, and their rows
 pub patch-ready : (d t : List ℕ) (v : View) → Readable d t v → objectRefusal (objectIn d t v) ≡ none → (entries maps order by rows : List ℕ) (n own : ℕ)
     → take n maps ≡ mapNumbers d t v → n ≤ length maps → own ≡ ownStart (catalogue d t v) → rows ≡ filled 0 (length rows) (imageOf (catalogue d t v) .maps)
-    → Ready d t v entries maps n order by → 0 < length entries → PatchReady d t v entries order by rows own
+    → ReadyToPatch d t v entries maps n order by → 0 < length entries → PatchReady d t v entries order by rows own
 patch-ready d t v r ok entries maps order by rows n own e w f g k p =
     let c = catalogue d t v in
-    let q : imageOf c .maps ≡ joined (placed mapName mapOwn mapRow (mapsAt c) own (mapsOf d t v maps n)) =
-    sym (rows-of-maps d t v n maps w r ok e) ∙ ap (λ (b : ℕ). joined (placed mapName mapOwn mapRow (mapsAt c) b (mapsOf d t v maps n))) (sym f)
+    let q : imageOf c .maps ≡ joined (placed mapName mapOwn mapRow (mapsAt c) own (mapsOfNumbers d t v maps n)) =
+    sym (rows-of-maps d t v n maps w r ok e) ∙ ap (λ (b : ℕ). joined (placed mapName mapOwn mapRow (mapsAt c) b (mapsOfNumbers d t v maps n))) (sym f)
     in
     record {
       sited = sited-table d t v maps n e w by (k .sited p);

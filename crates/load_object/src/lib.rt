@@ -11,7 +11,7 @@ ghost use Rattle.records.specs.Readable.{Readable};
 ghost use Rattle.object.specs.View.{objectIn};
 ghost use Rattle.bytes_layout.specs.Held.{Held};
 ghost use Rattle.bytes_layout.specs.Parts.{catalogue};
-ghost use Rattle.load_decision.specs.Patches.{Ready};
+ghost use Rattle.load_decision.specs.Patches.{ReadyToPatch};
 ghost use Rattle.load_fill.specs.Fills.{Fillable};
 ghost use Rattle.load_object.specs.Core.{noView, refusedBy, acceptedBy, Scratch};
 ghost use Rattle.load_object.specs.Done.{FrontDone};
@@ -149,7 +149,7 @@ fn fill_and_finish(
     requires { ⌜
         Fillable (now d) (now t) v plan (now s) (now p) (now f) (now m) (now sections) (now programs) (now maps) (now relocations) (now bytes)
         × (patchRefusal (objectIn (now d) (now t) v) (catalogue (now d) (now t) v .maps) 1 (patchesOf (now entries) (now patches)) ≡ none)
-        × Ready (now d) (now t) v (now entries) (now m) (plan .counts .maps) (now symbols) (now by)
+        × ReadyToPatch (now d) (now t) v (now entries) (now m) (plan .counts .maps) (now symbols) (now by)
         ⌝ }
     ensures { λ l.
         ⌜

@@ -10,11 +10,11 @@ use Rattle.records.specs.View.{depositView, sectionAt, symbolAt, relocationAt}
 use Rattle.object_view.specs.declared.Opened.{Opened}
 use Rattle.deposit.specs.Open.{openedOf}
 use Rattle.deposit.specs.Accepted
-use Rattle.deposit.specs.Accepted.{Accepted, accepted}
+use Rattle.deposit.specs.Accepted.{AcceptedStream, accepted}
 use Rattle.object.specs.View.{relocIn, sectionFrom, symbolFrom, objectIn}
 
-pub accepted-object : (d t : List ℕ) (h : Head) → Accepted d h → objectOf d ≡ objectIn d t (depositView h)
-unfolding objectIn sectionFrom symbolFrom relocIn depositView sectionAt symbolAt relocationAt depositSection depositSymbol depositRelocation Accepted.sectionIn Accepted.symbolIn Accepted.relocsIn
+pub accepted-object : (d t : List ℕ) (h : Head) → AcceptedStream d h → objectOf d ≡ objectIn d t (depositView h)
+unfolding objectIn sectionFrom symbolFrom relocIn depositView sectionAt symbolAt relocationAt depositSection depositSymbol depositRelocation AcceptedStream.sectionIn AcceptedStream.symbolIn AcceptedStream.relocsIn
 accepted-object d t h a = λ k. record { order = a .object-order k; sections = a .object-sections k; symbols = a .object-symbols k }
 
 pub opened-object : (d t : List ℕ) (v : View) → openedOf d ≡ Opened.View v → objectOf d ≡ objectIn d t v

@@ -18,7 +18,7 @@ use Rattle.model.specs.Symbols.{isText, isProgram}
 use Rattle.model.specs.Deposit.{unlessNone, relocOf, symbolKind}
 use Rattle.stream.specs.Stream.{bytesAt}
 use Rattle.catalogue_laws.specs.ByNumber.{isDefinedText}
-use Rattle.catalogue_laws.specs.SectionsPrograms.{Rising}
+use Rattle.catalogue_laws.specs.SectionsPrograms.{IndexesRising}
 use Rattle.records.specs.View.{gapOf, nameIn, dataIn, sectionAt, symbolAt, relocationAt}
 use Rattle.records.specs.Readable.{SectionsRise}
 
@@ -60,7 +60,7 @@ module _ (d t : List ℕ) (v : View) where
   objectIn = record { order = v .order; sections = tab sectionIn (v .sections); symbols = tab symbolIn (v .symbols) }
 
   -- the indexes of the object's sections rise with those of the records
-  pub rising : SectionsRise d t v → Rising (v .order) sectionIn (v .sections) symbolIn (v .symbols)
+  pub rising : SectionsRise d t v → IndexesRising (v .order) sectionIn (v .sections) symbolIn (v .symbols)
   unfolding sectionFrom
   rising rise = rise
 

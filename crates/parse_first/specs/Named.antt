@@ -51,26 +51,26 @@ found-still Found.Nothing i = refl
 -- ---- the first number below n that passes
 
 module _ (p : ℕ → Bool) where
-  abbrev pub firstOf : ℕ → Option ℕ
-  firstOf n = find p (upTo n)
+  abbrev pub firstWithName : ℕ → Option ℕ
+  firstWithName n = find p (upTo n)
 
-  pub first-zero : firstOf 0 ≡ none
+  pub first-zero : firstWithName 0 ≡ none
   unfolding find firstIn tab
   first-zero = refl
 
-  pub first-next : (i : ℕ) → firstOf (i + 1) ≡ orElse (firstOf i) (cond (p i) (some i) none)
+  pub first-next : (i : ℕ) → firstWithName (i + 1) ≡ orElse (firstWithName i) (cond (p i) (some i) none)
   unfolding find firstIn tab
-  first-next i = ap firstOf (add-one i) ∙ firstIn-append (λ x. cond (p x) (some x) none) (upTo i) (i ∷ []) ∙ ap (orElse (firstOf i)) (alone (cond (p i) (some i) none))
+  first-next i = ap firstWithName (add-one i) ∙ firstIn-append (λ x. cond (p x) (some x) none) (upTo i) (i ∷ []) ∙ ap (orElse (firstWithName i)) (alone (cond (p i) (some i) none))
     where
       alone : (o : Option ℕ) → orElse o none ≡ o
       alone none = refl
       alone (some j) = refl
 
-  pub first-below : (n i : ℕ) → firstOf n ≡ some i → i < n
+  pub first-below : (n i : ℕ) → firstWithName n ≡ some i → i < n
   unfolding find firstIn tab
   first-below zero i e = let z : _≡_ {A = ℕ} 0 1 = cc in absurd (omega arith)
   first-below (suc n) i e =
-      go (firstOf n) (p n) (first-below n i) (sym (firstIn-append (λ x. cond (p x) (some x) none) (upTo n) (n ∷ [])) ∙ e)
+      go (firstWithName n) (p n) (first-below n i) (sym (firstIn-append (λ x. cond (p x) (some x) none) (upTo n) (n ∷ [])) ∙ e)
     where
       go : (o : Option ℕ) (b : Bool) → (o ≡ some i → i < n) → orElse o (orElse (cond b (some n) none) none) ≡ some i → i < suc n
       go (some j) b f g = omega (arith, f g)
@@ -97,7 +97,7 @@ module _ (d t : List ℕ) (v : View) (word : List ℕ) where
 
   -- the first section of that name
   unfoldable pub numberNamed : Option ℕ
-  numberNamed = firstOf namedAt (v .sections)
+  numberNamed = firstWithName namedAt (v .sections)
 
   pub number-named : firstNamed word (tab (sectionIn d t v) (v .sections)) ≡ maybe numberNamed none (λ i. some (sectionIn d t v i))
   unfolding firstNamed numberNamed
@@ -126,8 +126,8 @@ module _ (d t : List ℕ) (v : View) where
   abbrev pub namedBelow : ℕ → Named
   namedBelow n =
       record {
-        license = foundOf (firstOf (namedAt d t v (ascii "license")) n);
-        version = foundOf (firstOf (namedAt d t v (ascii "version")) n);
+        license = foundOf (firstWithName (namedAt d t v (ascii "license")) n);
+        version = foundOf (firstWithName (namedAt d t v (ascii "version")) n);
       }
 
   abbrev pub namedIn : Named
@@ -148,8 +148,8 @@ module _ (d t : List ℕ) (v : View) where
   named-next i = rw (
     first-next (namedAt d t v (ascii "license")) i,
     first-next (namedAt d t v (ascii "version")) i,
-    found-or (firstOf (namedAt d t v (ascii "license")) i) (namedAt d t v (ascii "license") i) i,
-    found-or (firstOf (namedAt d t v (ascii "version")) i) (namedAt d t v (ascii "version") i) i,
+    found-or (firstWithName (namedAt d t v (ascii "license")) i) (namedAt d t v (ascii "license") i) i,
+    found-or (firstWithName (namedAt d t v (ascii "version")) i) (namedAt d t v (ascii "version") i) i,
   )
 
   pub named-all : namedBelow (v .sections) ≡ namedIn

@@ -87,23 +87,23 @@ module _ {A : Type 0} where
       (ap (λ l. f k ∷ l) (tab-ext (λ j. f (k + suc j)) (λ j. f (suc k + j)) n (λ j l. ap f (omega arith))))
 
   -- a table whose first n are filled from k on
-  abbrev pub filled : (ℕ → A) → ℕ → ℕ → List A → List A
-  filled f k n t = take k t ++ (tab (λ j. f (k + j)) (n - k) ++ drop n t)
+  abbrev pub filledFrom : (ℕ → A) → ℕ → ℕ → List A → List A
+  filledFrom f k n t = take k t ++ (tab (λ j. f (k + j)) (n - k) ++ drop n t)
 
-  pub filled-none : (f : ℕ → A) (n : ℕ) (t : List A) → t ≡ filled f n n t
+  pub filled-none : (f : ℕ → A) (n : ℕ) (t : List A) → t ≡ filledFrom f n n t
   filled-none f n t =
       let e : n - n ≡ 0 = omega arith in
       let z : tab (λ j. f (n + j)) (n - n) ≡ [] = ap (tab (λ j. f (n + j))) e ∙ tab-none (λ j. f (n + j)) in
       rw z (sym (take-append-drop n t))
 
-  pub filled-all : (f : ℕ → A) (n : ℕ) (t : List A) → filled f 0 n t ≡ tab f n ++ drop n t
+  pub filled-all : (f : ℕ → A) (n : ℕ) (t : List A) → filledFrom f 0 n t ≡ tab f n ++ drop n t
   filled-all f n t =
       let e : n - 0 ≡ n = omega arith in
       rw e (ap (λ l. l ++ drop n t) (tab-ext (λ j. f (0 + j)) f n (λ j l. ap f (omega arith))))
 
   -- one store of a loop from the end
   pub filled-before : (f : ℕ → A) (k n : ℕ) (t : List A) → 0 < k → k ≤ n → n ≤ length t
-      → set (filled f k n t) (k - 1) (f (k - 1)) ≡ filled f (k - 1) n t
+      → set (filledFrom f k n t) (k - 1) (f (k - 1)) ≡ filledFrom f (k - 1) n t
   filled-before f zero n t p h g = absurd (not-suc-le-zero p)
   filled-before f (suc k) n t p h g =
       let r : List A = tab (λ j. f (suc k + j)) (n - suc k) ++ drop n t in

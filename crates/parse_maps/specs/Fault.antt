@@ -23,8 +23,8 @@ use Rattle.object.specs.Group.{pastData, past-by-record, faultOf, fault-some}
 use Rattle.object.specs.View.{sectionFrom, symbolFrom}
 
 -- the numbers of the maps that symbols are
-abbrev pub mapNumbers : ℕ → List ℕ → List ℕ
-mapNumbers sections js = map (λ j. mapNumberOf sections (MapSource.Symbol j)) js
+abbrev pub symbolMapNumbers : ℕ → List ℕ → List ℕ
+symbolMapNumbers sections js = map (λ j. mapNumberOf sections (MapSource.Symbol j)) js
 
 module _ (d : List ℕ) (v : View) (s : SectionRecord) where
   unfoldable pub mapFault : SymbolRecord → ℕ
@@ -55,14 +55,14 @@ module _ (d : List ℕ) (v : View) (s : SectionRecord) where
       fault-none e = fault-fits ∙ rw e
 
 module _ (d t : List ℕ) (v : View) (s : SectionRecord) where
-  abbrev pub refusalBy : SymbolRecord → Option Refusal
-  refusalBy y = mapSymbolRefusal (sectionFrom d t v s) (symbolFrom d t v y)
+  abbrev pub mapRefusalBy : SymbolRecord → Option Refusal
+  mapRefusalBy y = mapSymbolRefusal (sectionFrom d t v s) (symbolFrom d t v y)
 
-  abbrev pub refusalAt : ℕ → Option Refusal
-  refusalAt j = refusalBy (symbolAt d t v j)
+  abbrev pub mapRefusalAt : ℕ → Option Refusal
+  mapRefusalAt j = mapRefusalBy (symbolAt d t v j)
 
   module _ (y : SymbolRecord) where
-    by-fault : refusalBy y ≡ faultOf (mapFault d v s y) (s .index) (y .index)
+    by-fault : mapRefusalBy y ≡ faultOf (mapFault d v s y) (s .index) (y .index)
     unfolding mapSymbolRefusal recordOf sectionFrom symbolFrom mapFault
     by-fault =
         rw (past-by-record d t v s (y .address) (y .size))
@@ -73,8 +73,8 @@ module _ (d t : List ℕ) (v : View) (s : SectionRecord) where
         go false true = refl
         go false false = refl
 
-    pub refusal-fine : mapFault d v s y ≡ 0 → refusalBy y ≡ none
+    pub refusal-fine : mapFault d v s y ≡ 0 → mapRefusalBy y ≡ none
     refusal-fine e = by-fault ∙ rw e
 
-    pub refusal-some : (mapFault d v s y ≡ 0 → ⊥) → refusalBy y ≡ some (record { number = mapFault d v s y; section = s .index; symbol = y .index; entry = 0 })
+    pub refusal-some : (mapFault d v s y ≡ 0 → ⊥) → mapRefusalBy y ≡ some (record { number = mapFault d v s y; section = s .index; symbol = y .index; entry = 0 })
     refusal-some n = by-fault ∙ fault-some (mapFault d v s y) (s .index) (y .index) n

@@ -9,7 +9,7 @@ ghost use Rattle.model.specs.Refusals.{mapSymbolRefusal, mapsRefusal};
 ghost use Rattle.object.specs.Checked.{checkedOf};
 ghost use Rattle.object.specs.Group.{membersIn};
 ghost use Rattle.object.specs.View.{sectionFrom, symbolIn, objectIn};
-ghost use Rattle.parse_maps.specs.Fault.{mapFault, mapNumbers};
+ghost use Rattle.parse_maps.specs.Fault.{mapFault, symbolMapNumbers};
 use model::SectionRecord;
 use model::SymbolRecord;
 use object::Checked;
@@ -104,8 +104,8 @@ pub fn map_numbers(
         ⌝ }
     ensures { λ r.
         ⌜
-        (r ≡ w + length (mapNumbers sections (slice lo hi (now (symbols .entry)))))
-        × (now (out .exit) ≡ take w (now (out .entry)) ++ (mapNumbers sections (slice lo hi (now (symbols .entry))) ++ drop r (now (out .entry))))
+        (r ≡ w + length (symbolMapNumbers sections (slice lo hi (now (symbols .entry)))))
+        × (now (out .exit) ≡ take w (now (out .entry)) ++ (symbolMapNumbers sections (slice lo hi (now (symbols .entry))) ++ drop r (now (out .entry))))
         ⌝ }
 {
     let mut n = w;

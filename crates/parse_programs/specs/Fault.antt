@@ -71,20 +71,20 @@ module _ (s : SectionRecord) (y : SymbolRecord) where
 -- ---- what a symbol of the section is refused for
 
 module _ (d t : List ℕ) (v : View) (s : SectionRecord) where
-  abbrev pub refusalBy : SymbolRecord → Option Refusal
-  refusalBy y = cond (isProgram (symbolFrom d t v y)) (programSymbolRefusal (sectionFrom d t v s) (symbolFrom d t v y)) none
+  abbrev pub programRefusalBy : SymbolRecord → Option Refusal
+  programRefusalBy y = cond (isProgram (symbolFrom d t v y)) (programSymbolRefusal (sectionFrom d t v s) (symbolFrom d t v y)) none
 
-  abbrev pub refusalAt : ℕ → Option Refusal
-  refusalAt j = refusalBy (symbolAt d t v j)
+  abbrev pub programRefusalAt : ℕ → Option Refusal
+  programRefusalAt j = programRefusalBy (symbolAt d t v j)
 
   module _ (y : SymbolRecord) where
-    by-records : refusalBy y ≡ cond (namedText y) (faultOf (programFault s y) (s .index) (y .index)) none
+    by-records : programRefusalBy y ≡ cond (namedText y) (faultOf (programFault s y) (s .index) (y .index)) none
     by-records = rw (program-by-record d t v y, program-by-fault d t v s y)
 
-    pub refusal-other : namedText y ≡ false → refusalBy y ≡ none
+    pub refusal-other : namedText y ≡ false → programRefusalBy y ≡ none
     refusal-other e = by-records ∙ rw e
 
-    pub refusal-fine : programFault s y ≡ 0 → refusalBy y ≡ none
+    pub refusal-fine : programFault s y ≡ 0 → programRefusalBy y ≡ none
     refusal-fine e = by-records ∙ rw e (go (namedText y))
       where
         go : (b : Bool) → _≡_ {A = Option Refusal} (cond b none none) none
@@ -92,5 +92,5 @@ module _ (d t : List ℕ) (v : View) (s : SectionRecord) where
         go false = refl
 
     pub refusal-some : namedText y ≡ true → (programFault s y ≡ 0 → ⊥)
-        → refusalBy y ≡ some (record { number = programFault s y; section = s .index; symbol = y .index; entry = 0 })
+        → programRefusalBy y ≡ some (record { number = programFault s y; section = s .index; symbol = y .index; entry = 0 })
     refusal-some e n = by-records ∙ rw e (fault-some (programFault s y) (s .index) (y .index) n)

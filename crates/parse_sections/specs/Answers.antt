@@ -17,7 +17,7 @@ use Rattle.model.specs.Object.{Section, Object}
 use Rattle.model.specs.Refusals.{noSymbol, untargeted, relocRefusal, programRefusal, mapsRefusal, textRefusal, kindRefusal, sectionRefusal}
 use Rattle.model.specs.SectionKind.{kindNumber, isKind, kindOf}
 use Rattle.catalogue_laws.specs.ByNumber.{programMembers}
-use Rattle.catalogue_laws.specs.FunctionsMaps.{functionsIn}
+use Rattle.catalogue_laws.specs.FunctionsMaps.{functionNumbersIn}
 use Rattle.catalogue_laws.specs.Walk.{walkNumbers}
 use Rattle.records.specs.View.{sectionAt}
 use Rattle.object.specs.declared.Checked.{Checked}
@@ -116,5 +116,5 @@ module _ (d t : List ℕ) (v : View) (s : SectionRecord) where
 
 -- by number
 pub functions-by : (d t : List ℕ) (v : View) (i : ℕ) → functionsFrom d t v i ≡ functionsBy d t v (sectionAt d t v i)
-unfolding functionsIn programMembers functionsBy
+unfolding functionNumbersIn programMembers functionsBy
 functions-by d t v i = refl

@@ -52,8 +52,8 @@ module _ (d t : List ℕ) (v : View) where
   key j = symbolAt d t v j .section .0
 
   -- the first n of the symbols lie in sections below k
-  abbrev pub Passed : List ℕ → ℕ → ℕ → Type 0
-  Passed order n k = All (λ j. symbolAt d t v j .section .0 < k) (take n order)
+  abbrev pub SymbolsPassed : List ℕ → ℕ → ℕ → Type 0
+  SymbolsPassed order n k = All (λ j. symbolAt d t v j .section .0 < k) (take n order)
 
   -- where a section's symbols stand, from a place on
   pub record GroupOf (s : SectionRecord) (order : List ℕ) (from lo hi : ℕ) : Type 0 where
@@ -61,12 +61,12 @@ module _ (d t : List ℕ) (v : View) where
     pub upward : lo ≤ hi
     pub within : hi ≤ length order
     pub group : slice lo hi order ≡ membersIn d t v s
-    pub passed : (k : ℕ) → s .index .0 < k → Passed order hi k
+    pub passed : (k : ℕ) → s .index .0 < k → SymbolsPassed order hi k
 
   -- i sections are passed, and their symbols end at `from`
   pub record Reached (order : List ℕ) (i from : ℕ) : Type 0 where
     pub within : from ≤ length order
-    pub passed : i < v .sections → Passed order from (sectionAt d t v i .index .0)
+    pub passed : i < v .sections → SymbolsPassed order from (sectionAt d t v i .index .0)
 
   pub reached-start : (order : List ℕ) → Reached order 0 0
   reached-start order = record { within = omega arith; passed = λ l. tt }
@@ -91,7 +91,7 @@ module _ (d t : List ℕ) (v : View) where
       out i = go i (isNone (i .0)) refl
 
   module _ (s : SectionRecord) (order : List ℕ) (from lo : ℕ) (e : order ≡ sorted (bySection (symbolIn d t v)) (upTo (v .symbols)))
-      (p : Passed order from (s .index .0)) (a : Start d t v order from (s .index .0) lo) where
+      (p : SymbolsPassed order from (s .index .0)) (a : Start d t v order from (s .index .0) lo) where
     pub group-none : isNone (s .index .0) ≡ true → GroupOf s order from lo lo
     group-none q =
         record {

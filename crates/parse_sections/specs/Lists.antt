@@ -9,7 +9,7 @@ use Rattle.model.specs.declared.EbpfSectionKind.{EbpfSectionKind as Kind}
 use Rattle.model.specs.Contents.{isData}
 use Rattle.model.specs.SectionKind.{isKind, kindOf}
 use Rattle.object_view.specs.declared.View.{View}
-use Rattle.catalogue_laws.specs.FunctionsMaps.{functionsIn, mapsIn}
+use Rattle.catalogue_laws.specs.FunctionsMaps.{functionNumbersIn, mapsIn}
 use Rattle.catalogue_laws.specs.Groups.{LaidFrom}
 use Rattle.catalogue_laws.specs.SectionsPrograms.{sectionsIn, programsIn}
 use Rattle.records.specs.declared.MapSource.{MapSource}
@@ -68,7 +68,7 @@ module _ (d t : List ℕ) (v : View) (i : ℕ) where
   sections-by = refl
 
   pub programs-by : programsFrom d t v i ≡ programNumbersOf kind (functionsFrom d t v i)
-  unfolding programsIn functionsIn programNumbersOf
+  unfolding programsIn functionNumbersIn programNumbersOf
   programs-by = go _ _ (isKind Kind.Program kind)
     where
       go : (ps fs : List ℕ) (b : Bool) → cond b ps [] ≡ cond b (cond b ps fs) []

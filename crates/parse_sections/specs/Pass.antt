@@ -60,7 +60,7 @@ module _ (d t : List ℕ) (v : View) where
   -- ---- what the pass answers
 
   -- nothing refuses the object, the first n of each list are what its sections list, and n has its licence and its version
-  pub record Found (q : Option Refusal) (n : Counts) (sections programs functions maps : List ℕ) : Type 0 where
+  pub record AllListed (q : Option Refusal) (n : Counts) (sections programs functions maps : List ℕ) : Type 0 where
     pub fine : q ≡ none
     pub few-sections : n .sections ≤ v .sections
     pub few-programs : n .programs ≤ v .symbols
@@ -73,9 +73,9 @@ module _ (d t : List ℕ) (v : View) where
     pub of-license : n .license ≡ licenseAt d t v
     pub of-version : n .version ≡ versionOf o
 
-  abbrev pub Listed : Option Refusal → Tables → List ℕ → List ℕ → List ℕ → List ℕ → Type 0
-  Listed q (Tables.Refused x) sections programs functions maps = q ≡ some x
-  Listed q (Tables.Numbers n) sections programs functions maps = Found q n sections programs functions maps
+  abbrev pub ListedOrRefused : Option Refusal → Tables → List ℕ → List ℕ → List ℕ → List ℕ → Type 0
+  ListedOrRefused q (Tables.Refused x) sections programs functions maps = q ≡ some x
+  ListedOrRefused q (Tables.Numbers n) sections programs functions maps = AllListed q n sections programs functions maps
 
   -- ---- the loop
 
@@ -95,7 +95,7 @@ module _ (d t : List ℕ) (v : View) where
     pub of-version : n .version ≡ versionOf o
 
   -- section i is passed too, and its functions are those from w to m of a list
-  pub record Ahead (order functions : List ℕ) (i hi w m : ℕ) : Type 0 where
+  pub record SectionAhead (order functions : List ℕ) (i hi w m : ℕ) : Type 0 where
     pub reached : Reached d t v order (i + 1) hi
     pub fine : firstIn (sectionRefusal o) (tab (sectionIn d t v) (i + 1)) ≡ none
     pub grown : w ≤ m
@@ -127,7 +127,7 @@ module _ (d t : List ℕ) (v : View) where
       y : length order ≡ v .symbols
       y = all-symbols d t v order e
 
-      pub going-end : i ≡ v .sections → Found sectionsRefused n sections programs functions maps
+      pub going-end : i ≡ v .sections → AllListed sectionsRefused n sections programs functions maps
       unfolding sectionCandidates programCandidates functionCandidates mapCandidates
       going-end q =
           record {
@@ -183,7 +183,7 @@ module _ (d t : List ℕ) (v : View) where
               go (some w) z = let no : _≡_ {A = ℕ} 0 1 = cc in absurd (omega arith)
 
           pub going-ahead : (m : ℕ) → hi ≤ length functions → length out ≡ length (take (hi - 0) functions) → r ≡ ParsedText.Functions m
-              → Ahead order (out ++ drop (hi - 0) functions) i hi (n .functions) m
+              → SectionAhead order (out ++ drop (hi - 0) functions) i hi (n .functions) m
           going-ahead m room len f =
               let q = fine-here m f in
               let F = functionsFrom d t v in
@@ -202,7 +202,7 @@ module _ (d t : List ℕ) (v : View) where
               }
 
         -- what else it lists
-        module _ (fs : List ℕ) (m : ℕ) (a : Ahead order fs i hi (n .functions) m) where
+        module _ (fs : List ℕ) (m : ℕ) (a : SectionAhead order fs i hi (n .functions) m) where
           pub going-room : v .sections ≤ length sections → v .symbols ≤ length programs → v .sections + v .symbols ≤ length maps
               → RoomFor (v .sections) order lo hi sections programs fs maps n m
           going-room p q s =

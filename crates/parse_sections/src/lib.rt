@@ -18,10 +18,10 @@ ghost use Rattle.object.specs.Group.{membersIn, programsAmong};
 ghost use Rattle.object.specs.View.{sectionFrom, symbolIn, objectIn};
 ghost use Rattle.parse_first.specs.LicenceVersion.{licenseAt};
 ghost use Rattle.parse_first.specs.Targets.{NextOf};
-ghost use Rattle.parse_sections.specs.Grouped.{Passed, GroupOf};
+ghost use Rattle.parse_sections.specs.Grouped.{SymbolsPassed, GroupOf};
 ghost use Rattle.parse_sections.specs.Answers.{checkedText, Answers, walkedIn, functionsBy};
 ghost use Rattle.parse_sections.specs.Lists.{sectionsOf, programNumbersOf, mapNumbersOf, RoomFor, Lists};
-ghost use Rattle.parse_sections.specs.Pass.{Listed, sectionsRefused};
+ghost use Rattle.parse_sections.specs.Pass.{ListedOrRefused, sectionsRefused};
 use model::EbpfSectionKind;
 use model::KernelVersion;
 use model::Refusal;
@@ -63,7 +63,7 @@ struct Group {
 fn group_of(d: &[u8], t: &[u32], v: View, s: SectionRecord, symbols: &[u32], from: usize) -> Group
     requires { ⌜
         (from ≤ length (now symbols)) × (now symbols ≡ sorted (bySection (symbolIn (now d) (now t) v)) (upTo (v .symbols)))
-        × Passed (now d) (now t) v (now symbols) from (s .index .0)
+        × SymbolsPassed (now d) (now t) v (now symbols) from (s .index .0)
         ⌝ }
     ensures { λ r. ⌜ GroupOf (now (d .entry)) (now (t .entry)) v s (now (symbols .entry)) from (r .lo) (r .hi) ⌝ }
 {
@@ -98,7 +98,8 @@ fn parse_programs(
     w: usize,
 ) -> ParsedText
     requires { ⌜
-        (lo ≤ hi) × (hi ≤ length (now symbols)) × (w + (hi - lo) ≤ length (now functions)) × (slice lo hi (now symbols) ≡ membersIn (now d) (now t) v s)
+        (lo ≤ hi) × (hi ≤ length (now symbols)) × (w + (hi - lo) ≤ length (now functions))
+        × (slice lo hi (now symbols) ≡ membersIn (now d) (now t) v s)
         ⌝ }
     ensures { λ r.
         ⌜
@@ -159,7 +160,8 @@ fn parse_text_section(
     w: usize,
 ) -> ParsedText
     requires { ⌜
-        (lo ≤ hi) × (hi ≤ length (now symbols)) × (w + (hi - lo) ≤ length (now functions)) × (slice lo hi (now symbols) ≡ membersIn (now d) (now t) v s)
+        (lo ≤ hi) × (hi ≤ length (now symbols)) × (w + (hi - lo) ≤ length (now functions))
+        × (slice lo hi (now symbols) ≡ membersIn (now d) (now t) v s)
         × (length (now group) ≡ hi - lo) × (length (now tmp) ≡ hi - lo)
         ⌝ }
     ensures { λ r.
@@ -189,7 +191,8 @@ fn parse_kind(
     w: usize,
 ) -> ParsedText
     requires { ⌜
-        (lo ≤ hi) × (hi ≤ length (now symbols)) × (w + (hi - lo) ≤ length (now functions)) × (slice lo hi (now symbols) ≡ membersIn (now d) (now t) v s)
+        (lo ≤ hi) × (hi ≤ length (now symbols)) × (w + (hi - lo) ≤ length (now functions))
+        × (slice lo hi (now symbols) ≡ membersIn (now d) (now t) v s)
         × (length (now group) ≡ hi - lo) × (length (now tmp) ≡ hi - lo) × (kind ≡ kindOf (sectionFrom (now d) (now t) v s))
         ⌝ }
     ensures { λ r.
@@ -239,7 +242,8 @@ fn parse_section(
     w: usize,
 ) -> ParsedText
     requires { ⌜
-        (lo ≤ hi) × (hi ≤ length (now symbols)) × (w + (hi - lo) ≤ length (now functions)) × (slice lo hi (now symbols) ≡ membersIn (now d) (now t) v s)
+        (lo ≤ hi) × (hi ≤ length (now symbols)) × (w + (hi - lo) ≤ length (now functions))
+        × (slice lo hi (now symbols) ≡ membersIn (now d) (now t) v s)
         × (length (now group) ≡ hi - lo) × (length (now tmp) ≡ hi - lo) × (kind ≡ kindOf (sectionFrom (now d) (now t) v s))
         × NextOf (now d) (now t) v (now next) × (s .relocations .at + s .relocations .length ≤ v .relocations)
         ⌝ }
@@ -375,7 +379,7 @@ fn parse_sections(
         ⌝ }
     ensures { λ r.
         ⌜
-        Listed (now (d .entry)) (now (t .entry)) v (sectionsRefused (now (d .entry)) (now (t .entry)) v) r (now (sections .exit))
+        ListedOrRefused (now (d .entry)) (now (t .entry)) v (sectionsRefused (now (d .entry)) (now (t .entry)) v) r (now (sections .exit))
         (now (programs .exit)) (now (functions .exit)) (now (maps .exit))
         ⌝ }
 {
@@ -464,7 +468,7 @@ pub fn parse_object(
         ⌝ }
     ensures { λ r.
         ⌜
-        Listed (now (d .entry)) (now (t .entry)) v (objectRefusal (objectIn (now (d .entry)) (now (t .entry)) v)) r (now (sections .exit))
+        ListedOrRefused (now (d .entry)) (now (t .entry)) v (objectRefusal (objectIn (now (d .entry)) (now (t .entry)) v)) r (now (sections .exit))
         (now (programs .exit)) (now (functions .exit)) (now (maps .exit))
         ⌝ }
 {

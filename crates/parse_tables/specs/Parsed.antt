@@ -60,7 +60,7 @@ module _ (d t : List ℕ) (v : View) where
       }
 
   -- the four tables, each at the front of its list
-  pub record Held (sections programs functions maps : List ℕ) : Type 0 where
+  pub record TablesHeld (sections programs functions maps : List ℕ) : Type 0 where
     pub of-sections : Front (sectionNumbers d t v) sections
     pub of-programs : Front (programNumbers d t v) programs
     pub of-functions : Front (functionNumbers d t v) functions
@@ -68,11 +68,11 @@ module _ (d t : List ℕ) (v : View) where
 
   pub record Parsed (r : Tables) (sections programs functions maps : List ℕ) : Type 0 where
     pub answer : r ≡ tablesOf (objectRefusal (objectIn d t v)) countsOf
-    pub numbers : objectRefusal (objectIn d t v) ≡ none → Held sections programs functions maps
+    pub numbers : objectRefusal (objectIn d t v) ≡ none → TablesHeld sections programs functions maps
 
   module _ (s p f m : List ℕ) where
     pub parsed-refused : (x : Refusal) → objectRefusal (objectIn d t v) ≡ some x → Parsed (Tables.Refused x) s p f m
     parsed-refused x e = record { answer = rw e; numbers = λ z. not-some x (sym e ∙ z) }
 
-    pub parsed-numbers : (r : Counts) → objectRefusal (objectIn d t v) ≡ none → r ≡ countsOf → Held s p f m → Parsed (Tables.Numbers r) s p f m
+    pub parsed-numbers : (r : Counts) → objectRefusal (objectIn d t v) ≡ none → r ≡ countsOf → TablesHeld s p f m → Parsed (Tables.Numbers r) s p f m
     parsed-numbers r e c t = record { answer = ap Tables.Numbers c ∙ rw e; numbers = λ z. t }

@@ -5,8 +5,8 @@ ghost use lib.ListN.{length};
 ghost use Rattle.model.specs.Refusals.{objectRefusal};
 ghost use Rattle.records.specs.Readable.{Readable};
 ghost use Rattle.object.specs.View.{objectIn};
-ghost use Rattle.parse_sections.specs.Pass.{Found};
-ghost use Rattle.parse_tables.specs.Parsed.{countsOf, Held, Parsed};
+ghost use Rattle.parse_sections.specs.Pass.{AllListed};
+ghost use Rattle.parse_tables.specs.Parsed.{countsOf, TablesHeld, Parsed};
 use object_view::View;
 use parse_sections::Counts;
 use parse_sections::Tables;
@@ -26,13 +26,13 @@ fn number_tables(
     n: Counts,
 ) -> Counts
     requires { ⌜
-        Found (now d) (now t) v (objectRefusal (objectIn (now d) (now t) v)) n (now sections) (now programs) (now functions) (now maps)
+        AllListed (now d) (now t) v (objectRefusal (objectIn (now d) (now t) v)) n (now sections) (now programs) (now functions) (now maps)
         × (v .sections + v .symbols ≤ length (now tmp))
         ⌝ }
     ensures { λ r.
         ⌜
         (r ≡ countsOf (now (d .entry)) (now (t .entry)) v)
-        × Held (now (d .entry)) (now (t .entry)) v (now (sections .exit)) (now (programs .exit)) (now (functions .exit)) (now (maps .exit))
+        × TablesHeld (now (d .entry)) (now (t .entry)) v (now (sections .exit)) (now (programs .exit)) (now (functions .exit)) (now (maps .exit))
         ⌝ }
 {
     let license = n.license;

@@ -79,15 +79,15 @@ module _ (addr : ℕ → ℕ) where
   after true x (j ∷ l) = earlier (cond (eqb x (addr j)) (some j) none) (leastAgain addr (j ∷ l))
 
   -- what the pass answers in the end, with l before it
-  unfoldable pub answer : Again → List ℕ → Conflict
-  answer a l = conflictOf (earlier (conflictNumber (a .least)) (after (a .seen) (a .address) l))
+  unfoldable pub conflictAnswer : Again → List ℕ → Conflict
+  conflictAnswer a l = conflictOf (earlier (conflictNumber (a .least)) (after (a .seen) (a .address) l))
 
-  pub answer-first : (l : List ℕ) → conflictOf (leastAgain addr l) ≡ answer nothingYet l
-  unfolding answer
+  pub answer-first : (l : List ℕ) → conflictOf (leastAgain addr l) ≡ conflictAnswer nothingYet l
+  unfolding conflictAnswer
   answer-first l = refl
 
-  pub answer-end : (a : Again) → answer a [] ≡ a .least
-  unfolding answer leastAgain
+  pub answer-end : (a : Again) → conflictAnswer a [] ≡ a .least
+  unfolding conflictAnswer leastAgain
   answer-end a = go (a .seen) (a .least)
     where
       go : (b : Bool) (s : Conflict) → conflictOf (earlier (conflictNumber s) (after b (a .address) [])) ≡ s
@@ -101,8 +101,8 @@ module _ (addr : ℕ → ℕ) where
   first-after j [] = refl
   first-after j (i ∷ l) = refl
 
-  answer-again : (a : Again) (j : ℕ) (l : List ℕ) → answer a (j ∷ l) ≡ answer (again a j (addr j)) l
-  unfolding answer
+  answer-again : (a : Again) (j : ℕ) (l : List ℕ) → conflictAnswer a (j ∷ l) ≡ conflictAnswer (again a j (addr j)) l
+  unfolding conflictAnswer
   answer-again a j l = go (a .seen) (eqb (a .address) (addr j)) refl
     where
       n : Option ℕ
@@ -117,8 +117,8 @@ module _ (addr : ℕ → ℕ) where
 
 -- the symbol at place k
 pub answer-next : (d t : List ℕ) (v : View) (a : Again) (order : List ℕ) (k hi : ℕ) → k < hi → hi ≤ length order
-    → answer (addressIn d t v) a (textGroup d t v order k hi)
-    ≡ answer (addressIn d t v) (againNext a (getD order k 0) (symbolAt d t v (getD order k 0))) (textGroup d t v order (k + 1) hi)
+    → conflictAnswer (addressIn d t v) a (textGroup d t v order k hi)
+    ≡ conflictAnswer (addressIn d t v) (againNext a (getD order k 0) (symbolAt d t v (getD order k 0))) (textGroup d t v order (k + 1) hi)
 unfolding againNext symbolFrom
 answer-next d t v a order k hi p q = go (definedRecord y) refl
   where
@@ -126,7 +126,7 @@ answer-next d t v a order k hi p q = go (definedRecord y) refl
     y = symbolAt d t v (getD order k 0)
 
     go : (b : Bool) → definedRecord y ≡ b
-        → answer (addressIn d t v) a (textGroup d t v order k hi)
-        ≡ answer (addressIn d t v) (cond b (again a (getD order k 0) (y .address)) a) (textGroup d t v order (k + 1) hi)
-    go true e = ap (answer (addressIn d t v) a) (group-text d t v order k hi p q (text-by-record d t v y ∙ e)) ∙ answer-again (addressIn d t v) a (getD order k 0) (textGroup d t v order (k + 1) hi)
-    go false e = ap (answer (addressIn d t v) a) (group-other d t v order k hi p q (text-by-record d t v y ∙ e))
+        → conflictAnswer (addressIn d t v) a (textGroup d t v order k hi)
+        ≡ conflictAnswer (addressIn d t v) (cond b (again a (getD order k 0) (y .address)) a) (textGroup d t v order (k + 1) hi)
+    go true e = ap (conflictAnswer (addressIn d t v) a) (group-text d t v order k hi p q (text-by-record d t v y ∙ e)) ∙ answer-again (addressIn d t v) a (getD order k 0) (textGroup d t v order (k + 1) hi)
+    go false e = ap (conflictAnswer (addressIn d t v) a) (group-other d t v order k hi p q (text-by-record d t v y ∙ e))

@@ -156,13 +156,13 @@ module _ (d t : List ℕ) (v : View) (s : SectionRecord) where
 
   -- ---- the whole section
 
-  unfoldable pub functionNumbers : List ℕ
-  functionNumbers = textNumbers endian sections (symbolIn d t v) (v .symbols) sec
+  unfoldable pub walkedNumbers : List ℕ
+  walkedNumbers = textNumbers endian sections (symbolIn d t v) (v .symbols) sec
 
   -- of an accepted section they are those of its walk
   pub numbers-of-walk : textRefusal (objectIn d t v) sec ≡ none
-      → functionNumbers ≡ walkNumbers endian sections (symbolIn d t v) (v .symbols) sec (length (sec .bytes)) 0
-  unfolding functionNumbers objectIn
+      → walkedNumbers ≡ walkNumbers endian sections (symbolIn d t v) (v .symbols) sec (length (sec .bytes)) 0
+  unfolding walkedNumbers objectIn
   numbers-of-walk e = numbers-accepted endian sections (symbolIn d t v) (v .symbols) sec e
 
   abbrev least : Option ℕ
@@ -174,30 +174,30 @@ module _ (d t : List ℕ) (v : View) (s : SectionRecord) where
   refusal-is =
       text-by-walk endian sections (symbolIn d t v) (v .symbols) sec ∙ rw length-bytes
 
-  numbers-are : functionNumbers ≡ maybe least (keptFrom (s .bytes .length) 0) (λ j. [])
-  unfolding functionNumbers
+  numbers-are : walkedNumbers ≡ maybe least (keptFrom (s .bytes .length) 0) (λ j. [])
+  unfolding walkedNumbers
   numbers-are = numbers-by-walk endian sections (symbolIn d t v) (v .symbols) sec ∙ rw data-length
 
   -- what parsing a section answers and leaves in the lent numbers
-  pub record Parsed (out₀ : List ℕ) (w : ℕ) (r : ParsedText) (out : List ℕ) : Type 0 where
-    pub answer : r ≡ parsedText (textRefusal (objectIn d t v) sec) (w + length functionNumbers)
-    pub numbers : out ≡ numbersLaid out₀ w functionNumbers
+  pub record TextParsed (out₀ : List ℕ) (w : ℕ) (r : ParsedText) (out : List ℕ) : Type 0 where
+    pub answer : r ≡ parsedText (textRefusal (objectIn d t v) sec) (w + length walkedNumbers)
+    pub numbers : out ≡ numbersLaid out₀ w walkedNumbers
 
   module _ (order : List ℕ) (lo hi : ℕ) (e : textGroup d t v order lo hi ≡ textIn d t v sec) where
     -- 11
     pub parsed-conflict : (c : Conflict) (out₀ : List ℕ) (w j : ℕ) → c ≡ conflictOf (leastAgain (addressIn d t v) (textGroup d t v order lo hi)) → c ≡ Conflict.At j
-        → Parsed out₀ w (ParsedText.Refused (refusal 11 (s .index) (symbolAt d t v j .index))) out₀
+        → TextParsed out₀ w (ParsedText.Refused (refusal 11 (s .index) (symbolAt d t v j .index))) out₀
     parsed-conflict c out₀ w j p q =
         let f : least ≡ some j = at-number least j (rw e at (sym p ∙ q)) in
         let r : textRefusal (objectIn d t v) sec ≡ some (refusal 11 (s .index) (symbolAt d t v j .index)) = refusal-is ∙ rw f in
-        let m : functionNumbers ≡ [] = numbers-are ∙ rw f in
+        let m : walkedNumbers ≡ [] = numbers-are ∙ rw f in
         record { answer = rw r; numbers = rw (m, add-zero) (sym (take-append-drop w out₀)) }
 
     -- the walk
     pub parsed-walk : (c : Conflict) (out₀ : List ℕ) (w : ℕ) (r : ParsedText) (out : List ℕ)
-        → c ≡ conflictOf (leastAgain (addressIn d t v) (textGroup d t v order lo hi)) → c ≡ Conflict.Nothing → Walked out₀ w r out → Parsed out₀ w r out
+        → c ≡ conflictOf (leastAgain (addressIn d t v) (textGroup d t v order lo hi)) → c ≡ Conflict.Nothing → Walked out₀ w r out → TextParsed out₀ w r out
     parsed-walk c out₀ w r out p q g =
         let f : least ≡ none = no-number least (rw e at (sym p ∙ q)) in
         let a : textRefusal (objectIn d t v) sec ≡ walkFrom (s .bytes .length) 0 = refusal-is ∙ rw f in
-        let m : functionNumbers ≡ keptFrom (s .bytes .length) 0 = numbers-are ∙ rw f in
+        let m : walkedNumbers ≡ keptFrom (s .bytes .length) 0 = numbers-are ∙ rw f in
         record { answer = rw (a, m) (g .answer); numbers = rw m (g .numbers) }

@@ -19,10 +19,10 @@ module _ (d t : List ℕ) (v : View) (s : SectionRecord) (order : List ℕ) (k h
   all = textIn d t v (sectionFrom d t v s)
 
   -- the search stands at place k
-  abbrev pub Stands : Type 0
-  Stands = Ahead (addressIn d t v) all a (textGroup d t v order k hi)
+  abbrev pub SearchStands : Type 0
+  SearchStands = Ahead (addressIn d t v) all a (textGroup d t v order k hi)
 
-  pub search-end : hi ≤ k → k ≤ hi → Stands → firstAt (addressIn d t v) a all ≡ none
+  pub search-end : hi ≤ k → k ≤ hi → SearchStands → firstAt (addressIn d t v) a all ≡ none
   search-end p q g = ahead-none (addressIn d t v) all a (rw (group-end d t v order k hi p q) at g)
 
   module _ (p : k < hi) (q : hi ≤ length order) (y : SymbolRecord) (e : y ≡ symbolAt d t v (getD order k 0)) where
@@ -33,11 +33,11 @@ module _ (d t : List ℕ) (v : View) (s : SectionRecord) (order : List ℕ) (k h
     kind : (b : Bool) → definedRecord y ≡ b → definedRecord (symbolAt d t v (getD order k 0)) ≡ b
     kind b f = ap definedRecord (sym e) ∙ f
 
-    pub search-other : definedRecord y ≡ false → Stands → Ahead (addressIn d t v) all a (textGroup d t v order (k + 1) hi)
+    pub search-other : definedRecord y ≡ false → SearchStands → Ahead (addressIn d t v) all a (textGroup d t v order (k + 1) hi)
     search-other f g =
         rw (group-other d t v order k hi p q (text-by-record d t v (symbolAt d t v (getD order k 0)) ∙ kind false f)) at g
 
-    module _ (f : definedRecord y ≡ true) (g : Stands) where
+    module _ (f : definedRecord y ≡ true) (g : SearchStands) where
       stands : Ahead (addressIn d t v) all a (getD order k 0 ∷ textGroup d t v order (k + 1) hi)
       stands = rw (group-text d t v order k hi p q (text-by-record d t v (symbolAt d t v (getD order k 0)) ∙ kind true f)) at g
 

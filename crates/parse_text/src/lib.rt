@@ -8,7 +8,7 @@ ghost use Rattle.object.specs.View.{sectionFrom};
 ghost use Rattle.object.specs.Checked.{checkedOf};
 ghost use Rattle.parse_text.specs.Group.{addressIn, textGroup, textIn};
 ghost use Rattle.parse_text.specs.Again.{conflictOf, conflictNumber, againNext};
-ghost use Rattle.parse_text.specs.Parsed.{refusal, unknownSymbol, invalidSymbol, Walked, Parsed};
+ghost use Rattle.parse_text.specs.Parsed.{refusal, unknownSymbol, invalidSymbol, Walked, TextParsed};
 use model::Refusal;
 use model::SectionIndex;
 use model::SectionRecord;
@@ -88,7 +88,8 @@ pub fn symbol_table_conflict(
     requires { ⌜ (lo ≤ hi) × (hi ≤ length (now symbols)) ⌝ }
     ensures { λ r.
         ⌜
-        r ≡ conflictOf (leastAgain (addressIn (now (d .entry)) (now (t .entry)) v) (textGroup (now (d .entry)) (now (t .entry)) v (now (symbols .entry)) lo hi))
+        r
+        ≡ conflictOf (leastAgain (addressIn (now (d .entry)) (now (t .entry)) v) (textGroup (now (d .entry)) (now (t .entry)) v (now (symbols .entry)) lo hi))
         ⌝ }
 {
     let mut a = Again {
@@ -208,7 +209,7 @@ pub fn parse_text_section(
 ) -> ParsedText
     requires { ⌜ (lo ≤ hi) × (hi ≤ length (now symbols)) × (w + (hi - lo) ≤ length (now out)) ⌝ }
     requires { ⌜ textGroup (now d) (now t) v (now symbols) lo hi ≡ textIn (now d) (now t) v (sectionFrom (now d) (now t) v s) ⌝ }
-    ensures { λ r. ⌜ Parsed (now (d .entry)) (now (t .entry)) v s (now (out .entry)) w r (now (out .exit)) ⌝ }
+    ensures { λ r. ⌜ TextParsed (now (d .entry)) (now (t .entry)) v s (now (out .entry)) w r (now (out .exit)) ⌝ }
 {
     match symbol_table_conflict(d, t, v, symbols, lo, hi) {
         Conflict::At(j) => {

@@ -32,8 +32,8 @@ use Rattle.records.specs.Readable.{Readable}
 use Rattle.patch_symbols.specs.declared.Bearer.{Bearer}
 use Rattle.patch_symbols.specs.Bearers.{bearerOf, bearersIn, bearers-by}
 use Rattle.patch_maps.specs.Places.{mapPlaces}
-use Rattle.patch_maps.specs.Found.{placeOf, Mapped, no-map, the-map, places-room}
-use Rattle.patch_checks.specs.Entries.{countOf, patchAt, patches-are}
+use Rattle.patch_maps.specs.Found.{mapPlaceOf, Mapped, no-map, the-map, places-room}
+use Rattle.patch_checks.specs.Entries.{entryCount, patchAt, patches-are}
 
 abbrev pub past : ℕ → ℕ → ℕ → Bool
 past n at size = ltb n (at + size) || ltb top (at + size)
@@ -57,8 +57,8 @@ all-take P (suc n) (x ∷ l) h f = (f 0 (omega arith), all-take P n l (omega ari
 
 module _ (d t : List ℕ) (v : View) where
   -- the maps of the first n numbers
-  abbrev pub mapsOf : List ℕ → ℕ → List Map
-  mapsOf maps n = map (mapAt d t v) (take n maps)
+  abbrev pub mapsOfNumbers : List ℕ → ℕ → List Map
+  mapsOfNumbers maps n = map (mapAt d t v) (take n maps)
 
   -- n map numbers, and where the maps of each section stand among them
   pub record Sited (maps : List ℕ) (n : ℕ) (by : List ℕ) : Type 0 where
@@ -81,11 +81,11 @@ module _ (d t : List ℕ) (v : View) where
       unfolding symbolFrom passes
       own-past m = refl
 
-      pub refused-22 : 0 ≡ placeOf d t v by y → placeRefusal (mapsOf maps n) e (symbolFrom d t v y) ≡ ofEntry 22 e true
+      pub refused-22 : 0 ≡ mapPlaceOf d t v by y → placeRefusal (mapsOfNumbers maps n) e (symbolFrom d t v y) ≡ ofEntry 22 e true
       unfolding placeRefusal
       refused-22 z = rw (no-map d t v (s .readable) (take n maps) (all-fit s) by (s .places) y (sym z))
 
-      module _ (p : ℕ) (is : p ≡ placeOf d t v by y) (some-map : p ≡ 0 → ⊥) where
+      module _ (p : ℕ) (is : p ≡ mapPlaceOf d t v by y) (some-map : p ≡ 0 → ⊥) where
         abbrev pub mapped : Type 0
         mapped = Mapped d t v (s .readable) (take n maps) (all-fit s) by (s .places) y (p - 1)
 
@@ -95,7 +95,7 @@ module _ (d t : List ℕ) (v : View) where
         pub place-below : p - 1 < n
         place-below = omega (arith, map-at .within, length-take-le n maps (s .within))
 
-        pub by-own : placeRefusal (mapsOf maps n) e (symbolFrom d t v y) ≡ ofEntry 23 e (past (length (mapAt d t v (getD maps (p - 1) 0) .own)) (y .address) (y .size))
+        pub by-own : placeRefusal (mapsOfNumbers maps n) e (symbolFrom d t v y) ≡ ofEntry 23 e (past (length (mapAt d t v (getD maps (p - 1) 0) .own)) (y .address) (y .size))
         unfolding placeRefusal
         by-own = rw (map-at .is, getD-take n maps (p - 1) 0 place-below) (ap (ofEntry 23 e) (own-past (mapAt d t v (getD maps (p - 1) 0))))
 
@@ -103,12 +103,12 @@ module _ (d t : List ℕ) (v : View) where
 
   module _ (ms : List Map) (e : ℕ) where
     -- what refuses an entry with data of some length and a mark, by the symbols that bear its name
-    abbrev pub faultOf : ℕ → ℕ → Bearer → Option Refusal
-    faultOf length mark Bearer.Nothing = ofEntry 20 e (eqb mark 1)
-    faultOf length mark (Bearer.One j) = orElse (ofEntry 21 e (not (eqb length (symbolIn d t v j .size)))) (placeRefusal ms e (symbolIn d t v j))
-    faultOf length mark Bearer.Several = ofEntry 19 e true
+    abbrev pub entryFault : ℕ → ℕ → Bearer → Option Refusal
+    entryFault length mark Bearer.Nothing = ofEntry 20 e (eqb mark 1)
+    entryFault length mark (Bearer.One j) = orElse (ofEntry 21 e (not (eqb length (symbolIn d t v j .size)))) (placeRefusal ms e (symbolIn d t v j))
+    entryFault length mark Bearer.Several = ofEntry 19 e true
 
-    by-bearers : (p : Patch) (js : List ℕ) → bearerRefusal ms e p (map (symbolIn d t v) js) ≡ faultOf (length (p .bytes)) (p .mark) (bearerOf js)
+    by-bearers : (p : Patch) (js : List ℕ) → bearerRefusal ms e p (map (symbolIn d t v) js) ≡ entryFault (length (p .bytes)) (p .mark) (bearerOf js)
     unfolding bearerRefusal
     by-bearers p [] = refl
     by-bearers p (j ∷ []) = refl
@@ -131,32 +131,32 @@ module _ (d t : List ℕ) (v : View) where
           go false = refl
 
       pub by-bearer : p .inside ≡ true → p .mark ≤ 1 → (b : Bearer) → b ≡ bearerOf (bearersIn d t v (p .name))
-          → entryRefusal (objectIn d t v) ms e p ≡ faultOf (length (p .bytes)) (p .mark) b
+          → entryRefusal (objectIn d t v) ms e p ≡ entryFault (length (p .bytes)) (p .mark) b
       unfolding entryRefusal
       by-bearer q m b f =
           passed (p .inside) (ltb 1 (p .mark)) (bearerRefusal ms e p (bearers (objectIn d t v) (p .name))) q (le-ltb 1 (p .mark) m)
           ∙ ap (bearerRefusal ms e p) (bearers-by d t v (p .name))
           ∙ by-bearers p (bearersIn d t v (p .name))
-          ∙ ap (faultOf (length (p .bytes)) (p .mark)) (sym f)
+          ∙ ap (entryFault (length (p .bytes)) (p .mark)) (sym f)
 
 -- ---- the list
 
 module _ (o : Object) (ms : List Map) (entries lent : List ℕ) where
   -- what is left of the list at entry e
   unfoldable pub restAt : ℕ → Option Refusal
-  restAt e = patchRefusal o ms (e + 1) (drop e (tab (patchAt entries lent) (countOf entries)))
+  restAt e = patchRefusal o ms (e + 1) (drop e (tab (patchAt entries lent) (entryCount entries)))
 
   pub rest-all : patchRefusal o ms 1 (patchesOf entries lent) ≡ restAt 0
   unfolding restAt
   rest-all = ap (patchRefusal o ms 1) (patches-are entries lent)
 
   module _ (e : ℕ) where
-    module _ (l : e < countOf entries) (w : Checked) (is : w ≡ checkedOf (entryRefusal o ms (e + 1) (patchAt entries lent e))) where
+    module _ (l : e < entryCount entries) (w : Checked) (is : w ≡ checkedOf (entryRefusal o ms (e + 1) (patchAt entries lent e))) where
       pub rest-refused : (r : Refusal) → w ≡ Checked.Refused r → w ≡ checkedOf (restAt e)
       unfolding restAt patchRefusal
-      rest-refused r q = rw (drop-tab-next (patchAt entries lent) (countOf entries) e l) (go (entryRefusal o ms (e + 1) (patchAt entries lent e)) is)
+      rest-refused r q = rw (drop-tab-next (patchAt entries lent) (entryCount entries) e l) (go (entryRefusal o ms (e + 1) (patchAt entries lent e)) is)
         where
-          go : (a : Option Refusal) → w ≡ checkedOf a → w ≡ checkedOf (orElse a (patchRefusal o ms (suc (e + 1)) (drop (e + 1) (tab (patchAt entries lent) (countOf entries)))))
+          go : (a : Option Refusal) → w ≡ checkedOf a → w ≡ checkedOf (orElse a (patchRefusal o ms (suc (e + 1)) (drop (e + 1) (tab (patchAt entries lent) (entryCount entries)))))
           go none f = let z : _≡_ {A = ℕ} 0 1 = cc in absurd (omega arith)
           go (some x) f = f
 
@@ -166,18 +166,18 @@ module _ (o : Object) (ms : List Map) (entries lent : List ℕ) where
         where
           go : (a : Option Refusal) → entryRefusal o ms (e + 1) (patchAt entries lent e) ≡ a → w ≡ checkedOf a
               → (entryRefusal o ms (e + 1) (patchAt entries lent e) ≡ none) × (restAt e ≡ restAt (e + 1))
-          go none g f = (g, rw (drop-tab-next (patchAt entries lent) (countOf entries) e l, g, add-one (e + 1)))
+          go none g f = (g, rw (drop-tab-next (patchAt entries lent) (entryCount entries) e l, g, add-one (e + 1)))
           go (some x) g f = let z : _≡_ {A = ℕ} 0 1 = cc in absurd (omega arith)
 
-    pub rest-none : e < countOf entries → restAt e ≡ none → (entryRefusal o ms (e + 1) (patchAt entries lent e) ≡ none) × (restAt (e + 1) ≡ none)
+    pub rest-none : e < entryCount entries → restAt e ≡ none → (entryRefusal o ms (e + 1) (patchAt entries lent e) ≡ none) × (restAt (e + 1) ≡ none)
     unfolding restAt patchRefusal
-    rest-none l z = go (entryRefusal o ms (e + 1) (patchAt entries lent e)) (rw (drop-tab-next (patchAt entries lent) (countOf entries) e l) at z)
+    rest-none l z = go (entryRefusal o ms (e + 1) (patchAt entries lent e)) (rw (drop-tab-next (patchAt entries lent) (entryCount entries) e l) at z)
       where
-        go : (a : Option Refusal) → orElse a (patchRefusal o ms (suc (e + 1)) (drop (e + 1) (tab (patchAt entries lent) (countOf entries)))) ≡ none
-            → (a ≡ none) × (patchRefusal o ms (e + 1 + 1) (drop (e + 1) (tab (patchAt entries lent) (countOf entries))) ≡ none)
+        go : (a : Option Refusal) → orElse a (patchRefusal o ms (suc (e + 1)) (drop (e + 1) (tab (patchAt entries lent) (entryCount entries)))) ≡ none
+            → (a ≡ none) × (patchRefusal o ms (e + 1 + 1) (drop (e + 1) (tab (patchAt entries lent) (entryCount entries))) ≡ none)
         go none f = (refl, rw (add-one (e + 1)) f)
         go (some x) f = not-some x f
 
-    pub rest-end : countOf entries ≤ e → restAt e ≡ none
+    pub rest-end : entryCount entries ≤ e → restAt e ≡ none
     unfolding restAt patchRefusal
-    rest-end l = rw (drop-tab-none (patchAt entries lent) (countOf entries) e l)
+    rest-end l = rw (drop-tab-none (patchAt entries lent) (entryCount entries) e l)

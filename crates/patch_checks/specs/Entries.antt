@@ -22,15 +22,15 @@ use Rattle.model.specs.PatchList.{patchFrom, patchesOf}
 use Rattle.patch_checks.specs.declared.Entry.{Entry}
 
 -- how many entries a list of numbers has: the last may be short
-abbrev pub countOf : List ℕ → ℕ
-countOf entries = (length entries + 4) / 5
+abbrev pub entryCount : List ℕ → ℕ
+entryCount entries = (length entries + 4) / 5
 
 abbrev range : ℕ → ℕ → Range
 range at n = record { at = at; length = n }
 
 -- entry e, counted from 0; numbers that are not lent are 0
-unfoldable pub entryAt : List ℕ → ℕ → Entry
-entryAt es e =
+unfoldable pub patchEntryAt : List ℕ → ℕ → Entry
+patchEntryAt es e =
     record {
       whole = leb (5 * e + 5) (length es);
       name = range (getD es (5 * e) 0) (getD es (5 * e + 1) 0);
@@ -45,7 +45,7 @@ longer bytes n = cond (ltb 65535 n) bytes (cond (ltb bytes n) n bytes)
 -- how many bytes the longest name of the first e entries has that a symbol may bear
 unfoldable pub longest : List ℕ → ℕ → ℕ
 longest es zero = 0
-longest es (suc e) = longer (longest es e) (entryAt es e .name .length)
+longest es (suc e) = longer (longest es e) (patchEntryAt es e .name .length)
 
 longer-both : (bytes n : ℕ) → (bytes ≤ longer bytes n) × (n ≤ 65535 → n ≤ longer bytes n)
 unfolding longer
@@ -56,20 +56,20 @@ longer-both bytes n = go (ltb 65535 n) (ltb bytes n) refl refl
     go false true p q = let l : bytes < n = ltb-true _ _ q in (omega arith, λ h. omega arith)
     go false false p q = let l : n ≤ bytes = ltb-false _ _ q in (omega arith, λ h. omega arith)
 
-longest-most : (es : List ℕ) (k e : ℕ) → e < k → entryAt es e .name .length ≤ 65535 → entryAt es e .name .length ≤ longest es k
+longest-most : (es : List ℕ) (k e : ℕ) → e < k → patchEntryAt es e .name .length ≤ 65535 → patchEntryAt es e .name .length ≤ longest es k
 unfolding longest
 longest-most es zero e h s = absurd (not-suc-le-zero h)
 longest-most es (suc k) e h s =
-    let both = longer-both (longest es k) (entryAt es k .name .length) in
+    let both = longer-both (longest es k) (patchEntryAt es k .name .length) in
     ⊎-elim (λ q. rw q (both .1 (rw q at s))) (λ l. le-trans (longest-most es k e l s) (both .0)) (eq-or-lt-of-le (le-of-suc-le-suc h))
 
 -- all symbols, sorted so that the name of each entry is found
-abbrev pub Named : List ℕ → List ℕ → View → List ℕ → List ℕ → Type 0
-Named d t v es order = (e : ℕ) → e < countOf es → Searchable d t v order (entryAt es e .name .length)
+abbrev pub NamesFound : List ℕ → List ℕ → View → List ℕ → List ℕ → Type 0
+NamesFound d t v es order = (e : ℕ) → e < entryCount es → Searchable d t v order (patchEntryAt es e .name .length)
 
 -- the longest name says how many bytes are enough
-pub all-named : (d t : List ℕ) (v : View) (es order : List ℕ) → order ≡ byName d t v (longest es (countOf es)) → Named d t v es order
-all-named d t v es order is e l = record { bytes = longest es (countOf es); enough = longest-most es (countOf es) e l; is = is }
+pub all-named : (d t : List ℕ) (v : View) (es order : List ℕ) → order ≡ byName d t v (longest es (entryCount es)) → NamesFound d t v es order
+all-named d t v es order is e l = record { bytes = longest es (entryCount es); enough = longest-most es (entryCount es) e l; is = is }
 
 -- what an entry stands for
 unfoldable pub patchBy : List ℕ → Entry → Patch
@@ -82,7 +82,7 @@ patchBy lent x =
     }
 
 abbrev pub patchAt : List ℕ → List ℕ → ℕ → Patch
-patchAt entries lent e = patchBy lent (entryAt entries e)
+patchAt entries lent e = patchBy lent (patchEntryAt entries e)
 
 -- a range lies inside, by what is left behind its start
 module _ (at m n : ℕ) where
@@ -126,17 +126,17 @@ module _ (entries lent : List ℕ) where
       go false q = let m : length entries < 5 * e + 5 = leb-false _ _ q in lt-leb 5 (length (part entries (5 * e) 5)) (omega (arith, l))
 
   patch-is : (e : ℕ) → patchFrom lent (part entries (5 * e) 5) ≡ patchAt entries lent e
-  unfolding patchFrom patchBy entryAt
+  unfolding patchFrom patchBy patchEntryAt
   patch-is e =
       let n₀ : getD (part entries (5 * e) 5) 0 0 ≡ getD entries (5 * e) 0 = number e 0 (omega arith) ∙ ap (λ k. getD entries k 0) (omega arith) in
       rw (whole e, n₀, number e 1 (omega arith), number e 2 (omega arith), number e 3 (omega arith), number e 4 (omega arith))
 
-  pub patches-are : patchesOf entries lent ≡ tab (patchAt entries lent) (countOf entries)
+  pub patches-are : patchesOf entries lent ≡ tab (patchAt entries lent) (entryCount entries)
   unfolding patchesOf
   patches-are =
-      is-tab (records (patchFrom lent) 5 (countOf entries) entries) (patchAt entries lent) (countOf entries) (patchAt entries lent 0)
-      (length-records (patchFrom lent) 5 (countOf entries) entries)
-      (λ i l. getD-records (patchFrom lent) (countOf entries) entries i (patchAt entries lent 0) l ∙ patch-is i)
+      is-tab (records (patchFrom lent) 5 (entryCount entries) entries) (patchAt entries lent) (entryCount entries) (patchAt entries lent 0)
+      (length-records (patchFrom lent) 5 (entryCount entries) entries)
+      (λ i l. getD-records (patchFrom lent) (entryCount entries) entries i (patchAt entries lent 0) l ∙ patch-is i)
 
 -- where the ranges of an entry lie inside what is lent
 module _ (lent : List ℕ) (x : Entry) where

@@ -10,8 +10,8 @@ ghost use Rattle.model.specs.PatchList.{patchesOf};
 ghost use Rattle.object.specs.Checked.{checkedOf};
 ghost use Rattle.object.specs.View.{symbolIn, symbolFrom, objectIn};
 ghost use Rattle.patch_symbols.specs.Search.{Searchable};
-ghost use Rattle.patch_checks.specs.Entries.{Named, countOf, entryAt, longer as longerOf, longest, patchBy};
-ghost use Rattle.patch_checks.specs.Checks.{past, mapsOf, Sited};
+ghost use Rattle.patch_checks.specs.Entries.{NamesFound, entryCount, patchEntryAt, longer as longerOf, longest, patchBy};
+ghost use Rattle.patch_checks.specs.Checks.{past, mapsOfNumbers, Sited};
 use bytes_maps::own_length;
 use model::Range;
 use model::Refusal;
@@ -43,7 +43,7 @@ fn number(entries: &[u64], i: usize) -> u64
 // Entry e, counted from 0.
 pub fn entry_at(entries: &[u64], e: usize) -> Entry
     requires { ⌜ e < 2 ^ 60 ⌝ }
-    ensures { λ r. ⌜ r ≡ entryAt (now (entries .entry)) e ⌝ }
+    ensures { λ r. ⌜ r ≡ patchEntryAt (now (entries .entry)) e ⌝ }
 {
     let p = 5 * e;
     Entry {
@@ -73,7 +73,7 @@ fn longer(so_far: u32, n: u64) -> u32
 
 // How many bytes the longest name of the list has that a symbol may bear.
 pub fn longest_name(entries: &[u64]) -> u32
-    ensures { λ r. ⌜ r ≡ longest (now (entries .entry)) (countOf (now (entries .entry))) ⌝ }
+    ensures { λ r. ⌜ r ≡ longest (now (entries .entry)) (entryCount (now (entries .entry))) ⌝ }
 {
     let mut e: usize = 0;
     let mut bytes: u32 = 0;
@@ -145,7 +145,9 @@ fn place_refusal(
     requires { ⌜ Sited (now d) (now t) v (now maps) n (now by) ⌝ }
     ensures { λ r.
         ⌜
-        r ≡ checkedOf (placeRefusal (mapsOf (now (d .entry)) (now (t .entry)) v (now (maps .entry)) n) e (symbolFrom (now (d .entry)) (now (t .entry)) v y))
+        r
+        ≡ checkedOf
+        (placeRefusal (mapsOfNumbers (now (d .entry)) (now (t .entry)) v (now (maps .entry)) n) e (symbolFrom (now (d .entry)) (now (t .entry)) v y))
         ⌝ }
 {
     let place = place_of(d, t, v, by, y);
@@ -177,7 +179,7 @@ fn symbol_refusal(
         r
         ≡ checkedOf
         (orElse (ofEntry 21 e (not (eqb length (symbolIn (now (d .entry)) (now (t .entry)) v j .size))))
-        (placeRefusal (mapsOf (now (d .entry)) (now (t .entry)) v (now (maps .entry)) n) e (symbolIn (now (d .entry)) (now (t .entry)) v j)))
+        (placeRefusal (mapsOfNumbers (now (d .entry)) (now (t .entry)) v (now (maps .entry)) n) e (symbolIn (now (d .entry)) (now (t .entry)) v j)))
         ⌝ }
 {
     let y = symbol(d, t, v, j);
@@ -205,7 +207,7 @@ fn entry_refusal(
         ⌜
         r
         ≡ checkedOf
-        (entryRefusal (objectIn (now (d .entry)) (now (t .entry)) v) (mapsOf (now (d .entry)) (now (t .entry)) v (now (maps .entry)) n) e
+        (entryRefusal (objectIn (now (d .entry)) (now (t .entry)) v) (mapsOfNumbers (now (d .entry)) (now (t .entry)) v (now (maps .entry)) n) e
         (patchBy (now (patches .entry)) x))
         ⌝ }
 {
@@ -242,12 +244,12 @@ pub fn patch_refusal(
     n: usize,
     by: &[u32],
 ) -> Checked
-    requires { ⌜ Sited (now d) (now t) v (now maps) n (now by) × Named (now d) (now t) v (now entries) (now symbols) ⌝ }
+    requires { ⌜ Sited (now d) (now t) v (now maps) n (now by) × NamesFound (now d) (now t) v (now entries) (now symbols) ⌝ }
     ensures { λ r.
         ⌜
         r
         ≡ checkedOf
-        (patchRefusal (objectIn (now (d .entry)) (now (t .entry)) v) (mapsOf (now (d .entry)) (now (t .entry)) v (now (maps .entry)) n) 1
+        (patchRefusal (objectIn (now (d .entry)) (now (t .entry)) v) (mapsOfNumbers (now (d .entry)) (now (t .entry)) v (now (maps .entry)) n) 1
         (patchesOf (now (entries .entry)) (now (patches .entry))))
         ⌝ }
 {

@@ -38,9 +38,9 @@ use Rattle.bytes_maps.specs.Own.{ownBytes}
 use Rattle.patch_symbols.specs.declared.Bearer.{Bearer}
 use Rattle.patch_symbols.specs.Bearers.{bearerOf, bearersIn, bearers-by}
 use Rattle.patch_maps.specs.Places.{mapHome}
-use Rattle.patch_maps.specs.Found.{placeOf}
-use Rattle.patch_checks.specs.Entries.{countOf, patchAt, patches-are}
-use Rattle.patch_checks.specs.Checks.{past, mapsOf, Sited, faultOf, refused-22, mapped, map-at, place-below, by-own, not-inside, other-mark, by-bearer}
+use Rattle.patch_maps.specs.Found.{mapPlaceOf}
+use Rattle.patch_checks.specs.Entries.{entryCount, patchAt, patches-are}
+use Rattle.patch_checks.specs.Checks.{past, mapsOfNumbers, Sited, entryFault, refused-22, mapped, map-at, place-below, by-own, not-inside, other-mark, by-bearer}
 use Rattle.patch_data.specs.Alone.{IsSection, Alone}
 use Rattle.patch_data.specs.Patched.{reach, patchedMap, patchedMaps, none-patched, same-section, same-length, patched-more}
 use Rattle.patch_data.specs.Region.{each-length, each-kept, each-sets, own-place}
@@ -49,29 +49,29 @@ module _ (d t : List ℕ) (v : View) where
   -- the rows of the map table stand in front, and the own bytes begin at `own`
   pub record Rows (maps : List ℕ) (n own : ℕ) (rows : List ℕ) : Type 0 where
     pub at : ℕ
-    pub front : take (n * 27) rows ≡ joined (placed mapName mapOwn mapRow at own (mapsOf d t v maps n))
+    pub front : take (n * 27) rows ≡ joined (placed mapName mapOwn mapRow at own (mapsOfNumbers d t v maps n))
 
   -- where the bytes of a symbol begin among those that the maps own
-  abbrev pub targetOf : List ℕ → List ℕ → ℕ → SymbolRecord → ℕ
-  targetOf by rows own y = getD rows (27 * (placeOf d t v by y - 1) + 5) 0 - own + y .address
+  abbrev pub ownPlaceOf : List ℕ → List ℕ → ℕ → SymbolRecord → ℕ
+  ownPlaceOf by rows own y = getD rows (27 * (mapPlaceOf d t v by y - 1) + 5) 0 - own + y .address
 
   -- a symbol has a map, whose row is there, and its bytes lie among `size`
-  pub record Reached (by rows : List ℕ) (own : ℕ) (y : SymbolRecord) (len size : ℕ) : Type 0 where
-    pub mapped : 0 < placeOf d t v by y
-    pub row : 27 * (placeOf d t v by y - 1) + 5 < length rows
-    pub start : own ≤ getD rows (27 * (placeOf d t v by y - 1) + 5) 0
-    pub room : targetOf by rows own y + len ≤ size
+  pub record MapReached (by rows : List ℕ) (own : ℕ) (y : SymbolRecord) (len size : ℕ) : Type 0 where
+    pub mapped : 0 < mapPlaceOf d t v by y
+    pub row : 27 * (mapPlaceOf d t v by y - 1) + 5 < length rows
+    pub start : own ≤ getD rows (27 * (mapPlaceOf d t v by y - 1) + 5) 0
+    pub room : ownPlaceOf by rows own y + len ≤ size
 
   -- what the maps own once e entries have acted
   unfoldable pub ownAfter : List ℕ → List ℕ → List ℕ → ℕ → ℕ → List ℕ
-  ownAfter entries lent maps n e = each mapOwn (patchedMaps (objectIn d t v) (tab (patchAt entries lent) e) (mapsOf d t v maps n))
+  ownAfter entries lent maps n e = each mapOwn (patchedMaps (objectIn d t v) (tab (patchAt entries lent) e) (mapsOfNumbers d t v maps n))
 
-  pub own-first : (entries lent maps : List ℕ) (n : ℕ) → each mapOwn (mapsOf d t v maps n) ≡ ownAfter entries lent maps n 0
+  pub own-first : (entries lent maps : List ℕ) (n : ℕ) → each mapOwn (mapsOfNumbers d t v maps n) ≡ ownAfter entries lent maps n 0
   unfolding ownAfter
-  own-first entries lent maps n = rw (tab-none (patchAt entries lent), none-patched (objectIn d t v) (mapsOf d t v maps n))
+  own-first entries lent maps n = rw (tab-none (patchAt entries lent), none-patched (objectIn d t v) (mapsOfNumbers d t v maps n))
 
   pub own-last : (entries lent maps : List ℕ) (n : ℕ)
-      → ownAfter entries lent maps n (countOf entries) ≡ each mapOwn (patchedMaps (objectIn d t v) (patchesOf entries lent) (mapsOf d t v maps n))
+      → ownAfter entries lent maps n (entryCount entries) ≡ each mapOwn (patchedMaps (objectIn d t v) (patchesOf entries lent) (mapsOfNumbers d t v maps n))
   unfolding ownAfter
   own-last entries lent maps n = rw (patches-are entries lent)
 
@@ -108,7 +108,7 @@ module _ (d t : List ℕ) (v : View) where
         go true q = not-some _ (sym (other-mark d t v ms e p (ltb-true 1 (p .mark) q)) ∙ ok)
         go false q = ltb-false 1 (p .mark) q
 
-    bearer-ok : (b : Bearer) → b ≡ bearerOf (bearersIn d t v (p .name)) → faultOf d t v ms e (length (p .bytes)) (p .mark) b ≡ none
+    bearer-ok : (b : Bearer) → b ≡ bearerOf (bearersIn d t v (p .name)) → entryFault d t v ms e (length (p .bytes)) (p .mark) b ≡ none
     bearer-ok b f = sym (by-bearer d t v ms e p inside-ok mark-ok b f) ∙ ok
 
     pub not-several : Bearer.Several ≡ bearerOf (bearersIn d t v (p .name)) → ⊥
@@ -172,9 +172,9 @@ module _ (d t : List ℕ) (v : View) where
     rows-length : n * 27 ≤ length rows
     unfolding mapRow
     rows-length =
-        let l : length (mapsOf d t v maps n) ≡ n = length-map numbers (mapAt d t v) ∙ numbers-length in
+        let l : length (mapsOfNumbers d t v maps n) ≡ n = length-map numbers (mapAt d t v) ∙ numbers-length in
         let t : length (take (n * 27) rows) ≡ n * 27 =
-        ap length (rs .front) ∙ length-joined mapName mapOwn mapRow 27 (λ a b m. refl) (rs .at) own (mapsOf d t v maps n) ∙ ap (λ k. k * 27) l
+        ap length (rs .front) ∙ length-joined mapName mapOwn mapRow 27 (λ a b m. refl) (rs .at) own (mapsOfNumbers d t v maps n) ∙ ap (λ k. k * 27) l
         in
         omega (arith, length-take (n * 27) rows)
 
@@ -187,9 +187,9 @@ module _ (d t : List ℕ) (v : View) where
         ∙ own-place (mapAt d t v) numbers q (rs .at) own (rw numbers-length l)
 
     -- of a symbol whose place is accepted
-    module _ (y : SymbolRecord) (e : ℕ) (ok : placeRefusal (mapsOf d t v maps n) e (symbolFrom d t v y) ≡ none) where
+    module _ (y : SymbolRecord) (e : ℕ) (ok : placeRefusal (mapsOfNumbers d t v maps n) e (symbolFrom d t v y) ≡ none) where
       abbrev place : ℕ
-      place = placeOf d t v by y
+      place = mapPlaceOf d t v by y
 
       some-map : place ≡ 0 → ⊥
       some-map z = not-some _ (sym (refused-22 d t v maps n by s y e (sym z)) ∙ ok)
@@ -209,10 +209,10 @@ module _ (d t : List ℕ) (v : View) where
           let (p, q) = both-false (ltb (length (ownBytes d t v (getD maps (place - 1) 0))) (y .address + y .size)) (ltb top (y .address + y .size)) not-past in
           rw (getD-take n maps (place - 1) 0 below) (ltb-false _ _ p)
 
-      target : targetOf by rows own y ≡ length (each (ownBytes d t v) (take (place - 1) numbers)) + y .address
+      target : ownPlaceOf by rows own y ≡ length (each (ownBytes d t v) (take (place - 1) numbers)) + y .address
       target = let r : getD rows (27 * (place - 1) + 5) 0 ≡ own + length (each (ownBytes d t v) (take (place - 1) numbers)) = row-own (place - 1) below in omega arith
 
-      pub reached : Reached by rows own y (y .size) (length (each (ownBytes d t v) numbers))
+      pub reached : MapReached by rows own y (y .size) (length (each (ownBytes d t v) numbers))
       reached =
           let l : place - 1 < length numbers = rw numbers-length below in
           let all : take n numbers ≡ numbers = take-all n numbers (rw numbers-length (le-refl n)) in
@@ -230,22 +230,22 @@ module _ (d t : List ℕ) (v : View) where
     fit : (r : ℕ) → r < length numbers → MapFits d t v (getD numbers r 0)
     fit r l = let k : r < n = rw numbers-length at l in rw (getD-take n maps r 0 k) (s .fits r k)
 
-    module _ (alone : Alone d t v numbers) (ps : List Patch) (p : Patch) (e : ℕ) (ok : entryRefusal (objectIn d t v) (mapsOf d t v maps n) e p ≡ none)
+    module _ (alone : Alone d t v numbers) (ps : List Patch) (p : Patch) (e : ℕ) (ok : entryRefusal (objectIn d t v) (mapsOfNumbers d t v maps n) e p ≡ none)
         (j : ℕ) (one : Bearer.One j ≡ bearerOf (bearersIn d t v (p .name))) where
       abbrev y : SymbolRecord
       y = symbolAt d t v j
 
       abbrev q : ℕ
-      q = placeOf d t v by y - 1
+      q = mapPlaceOf d t v by y - 1
 
-      accepted : placeRefusal (mapsOf d t v maps n) e (symbolFrom d t v y) ≡ none
-      accepted = place-ok (mapsOf d t v maps n) e p ok j one
+      accepted : placeRefusal (mapsOfNumbers d t v maps n) e (symbolFrom d t v y) ≡ none
+      accepted = place-ok (mapsOfNumbers d t v maps n) e p ok j one
 
-      found : mapped d t v maps n by s y e (placeOf d t v by y) refl (some-map y e accepted)
-      found = map-at d t v maps n by s y e (placeOf d t v by y) refl (some-map y e accepted)
+      found : mapped d t v maps n by s y e (mapPlaceOf d t v by y) refl (some-map y e accepted)
+      found = map-at d t v maps n by s y e (mapPlaceOf d t v by y) refl (some-map y e accepted)
 
       inside : y .address + length (p .bytes) ≤ length (ownBytes d t v (getD numbers q 0))
-      inside = rw (size-ok (mapsOf d t v maps n) e p ok j one) (within y e accepted)
+      inside = rw (size-ok (mapsOfNumbers d t v maps n) e p ok j one) (within y e accepted)
 
       here : ownBy (ps ++ (p ∷ [])) (getD numbers q 0) ≡ sets (ownBy ps (getD numbers q 0)) (y .address) (p .bytes)
       unfolding symbolFrom
@@ -267,10 +267,10 @@ module _ (d t : List ℕ) (v : View) where
           go true f (v ∷ vs) g =
               absurd (o (alone q r (found .within) l (own-section (getD numbers q 0) (omega arith)) (eqb-true _ _ f)))
 
-      pub acted : sets (each (ownBy ps) numbers) (targetOf by rows own y) (p .bytes) ≡ each (ownBy (ps ++ (p ∷ []))) numbers
+      pub acted : sets (each (ownBy ps) numbers) (ownPlaceOf by rows own y) (p .bytes) ≡ each (ownBy (ps ++ (p ∷ []))) numbers
       acted =
           let c : (k : ℕ) → length (ownBytes d t v k) ≡ length (ownBy ps k) = λ k. sym (same-length (objectIn d t v) ps (mapAt d t v k)) in
-          let t : targetOf by rows own y ≡ length (each (ownBy ps) (take q numbers)) + y .address =
+          let t : ownPlaceOf by rows own y ≡ length (each (ownBy ps) (take q numbers)) + y .address =
           target y e accepted ∙ ap (λ k. k + y .address) (each-length (ownBytes d t v) (ownBy ps) c (take q numbers))
           in
           ap (λ k. sets (each (ownBy ps) numbers) k (p .bytes)) t
@@ -282,7 +282,7 @@ module _ (d t : List ℕ) (v : View) where
     after-next : ownAfter entries lent maps n (e + 1) ≡ each (ownBy (tab (patchAt entries lent) e ++ (patchAt entries lent e ∷ []))) (take n maps)
     unfolding ownAfter
     after-next =
-        ap (λ ps. each mapOwn (patchedMaps (objectIn d t v) ps (mapsOf d t v maps n))) (tab-more (patchAt entries lent) e)
+        ap (λ ps. each mapOwn (patchedMaps (objectIn d t v) ps (mapsOfNumbers d t v maps n))) (tab-more (patchAt entries lent) e)
         ∙ own-by (tab (patchAt entries lent) e ++ (patchAt entries lent e ∷ [])) (take n maps)
 
     after-is : ownAfter entries lent maps n e ≡ each (ownBy (tab (patchAt entries lent) e)) (take n maps)
@@ -298,14 +298,14 @@ module _ (d t : List ℕ) (v : View) where
         ∙ each-length (ownBy (tab (patchAt entries lent) e)) (ownBytes d t v) (λ k. same-length (objectIn d t v) (tab (patchAt entries lent) e) (mapAt d t v k)) (take n maps)
 
     module _ (by : List ℕ) (s : Sited d t v maps n by) (own : ℕ) (rows : List ℕ) (rs : Rows maps n own rows)
-        (ok : entryRefusal (objectIn d t v) (mapsOf d t v maps n) (e + 1) (patchAt entries lent e) ≡ none)
+        (ok : entryRefusal (objectIn d t v) (mapsOfNumbers d t v maps n) (e + 1) (patchAt entries lent e) ≡ none)
         (j : ℕ) (one : Bearer.One j ≡ bearerOf (bearersIn d t v (patchAt entries lent e .name))) where
       module _ (y : SymbolRecord) (b vs : List ℕ) (is-symbol : y ≡ symbolAt d t v j) (is-now : b ≡ ownAfter entries lent maps n e) (is-given : vs ≡ patchAt entries lent e .bytes) where
-        pub after-reached : Reached by rows own y (length vs) (length b)
+        pub after-reached : MapReached by rows own y (length vs) (length b)
         after-reached =
-            rw (is-symbol, is-now, is-given, after-length, size-ok (mapsOf d t v maps n) (e + 1) (patchAt entries lent e) ok j one)
-            (reached maps n by s own rows rs (symbolAt d t v j) (e + 1) (place-ok (mapsOf d t v maps n) (e + 1) (patchAt entries lent e) ok j one))
+            rw (is-symbol, is-now, is-given, after-length, size-ok (mapsOfNumbers d t v maps n) (e + 1) (patchAt entries lent e) ok j one)
+            (reached maps n by s own rows rs (symbolAt d t v j) (e + 1) (place-ok (mapsOfNumbers d t v maps n) (e + 1) (patchAt entries lent e) ok j one))
 
-        pub after-one : Alone d t v (take n maps) → sets b (targetOf by rows own y) vs ≡ ownAfter entries lent maps n (e + 1)
+        pub after-one : Alone d t v (take n maps) → sets b (ownPlaceOf by rows own y) vs ≡ ownAfter entries lent maps n (e + 1)
         after-one alone =
             rw (is-symbol, is-given, is-now, after-is) (acted maps n by s own rows rs alone (tab (patchAt entries lent) e) (patchAt entries lent e) (e + 1) ok j one ∙ sym after-next)

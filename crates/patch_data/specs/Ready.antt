@@ -19,8 +19,8 @@ use Rattle.object.specs.View.{objectIn}
 use Rattle.catalogue_numbers.specs.Numbers.{mapAt, mapNumbers, maps-by}
 use Rattle.records.specs.Readable.{Readable}
 use Rattle.patch_maps.specs.Places.{mapPlaces}
-use Rattle.patch_checks.specs.Entries.{Named, countOf}
-use Rattle.patch_checks.specs.Checks.{mapsOf, Sited, restAt, rest-all}
+use Rattle.patch_checks.specs.Entries.{NamesFound, entryCount}
+use Rattle.patch_checks.specs.Checks.{mapsOfNumbers, Sited, restAt, rest-all}
 use Rattle.patch_data.specs.Acts.{Rows, ownAfter, own-first, own-last}
 use Rattle.patch_data.specs.Alone.{Alone, numbers-alone}
 use Rattle.patch_data.specs.Patched.{patchedMaps, maps-patched}
@@ -37,7 +37,7 @@ module _ (d t : List ℕ) (v : View) where
   -- symbols by name, the maps' places by section and their rows
   pub record Ready (entries order by rows : List ℕ) (own : ℕ) : Type 0 where
     pub sited : Sited d t v (mapNumbers d t v) mapCount by
-    pub named : Named d t v entries order
+    pub named : NamesFound d t v entries order
     pub placed : Rows d t v (mapNumbers d t v) mapCount own rows
 
   -- what the object's maps own once e entries have acted
@@ -46,10 +46,10 @@ module _ (d t : List ℕ) (v : View) where
 
   -- what is left of the checks at entry e
   abbrev pub checksAt : List ℕ → List ℕ → ℕ → Type 0
-  checksAt entries lent e = restAt (objectIn d t v) (mapsOf d t v (mapNumbers d t v) mapCount) entries lent e ≡ none
+  checksAt entries lent e = restAt (objectIn d t v) (mapsOfNumbers d t v (mapNumbers d t v) mapCount) entries lent e ≡ none
 
   module _ (readable : Readable d t v) where
-    maps-are : mapsOf d t v (mapNumbers d t v) mapCount ≡ objectMaps
+    maps-are : mapsOfNumbers d t v (mapNumbers d t v) mapCount ≡ objectMaps
     maps-are = ap (map (mapAt d t v)) (take-length (mapNumbers d t v)) ∙ sym (maps-by d t v readable)
 
     pub alone : Alone d t v (take mapCount (mapNumbers d t v))
@@ -59,7 +59,7 @@ module _ (d t : List ℕ) (v : View) where
       pub starts : each mapOwn objectMaps ≡ ownAt entries lent 0
       starts = ap (each mapOwn) (sym maps-are) ∙ own-first d t v entries lent (mapNumbers d t v) mapCount
 
-      pub ends : ownAt entries lent (countOf entries) ≡ each mapOwn (patched (objectIn d t v) (patchesOf entries lent) (catalogueOf (objectIn d t v)) .maps)
+      pub ends : ownAt entries lent (entryCount entries) ≡ each mapOwn (patched (objectIn d t v) (patchesOf entries lent) (catalogueOf (objectIn d t v)) .maps)
       unfolding withMaps
       ends =
           own-last d t v entries lent (mapNumbers d t v) mapCount
@@ -68,7 +68,7 @@ module _ (d t : List ℕ) (v : View) where
 
       pub checks-all : patchRefusal (objectIn d t v) objectMaps 1 (patchesOf entries lent) ≡ none → checksAt entries lent 0
       checks-all z =
-          sym (rest-all (objectIn d t v) (mapsOf d t v (mapNumbers d t v) mapCount) entries lent)
+          sym (rest-all (objectIn d t v) (mapsOfNumbers d t v (mapNumbers d t v) mapCount) entries lent)
           ∙ ap (λ ms. patchRefusal (objectIn d t v) ms 1 (patchesOf entries lent)) maps-are
           ∙ z
 
@@ -81,7 +81,7 @@ module _ (d t : List ℕ) (v : View) where
     all : take n maps ≡ take mapCount (mapNumbers d t v)
     all = e ∙ sym (take-length (mapNumbers d t v))
 
-    pub maps-lent : Readable d t v → mapsOf d t v maps n ≡ objectMaps
+    pub maps-lent : Readable d t v → mapsOfNumbers d t v maps n ≡ objectMaps
     maps-lent readable = ap (map (mapAt d t v)) all ∙ maps-are readable
 
     pub sited-table : (by : List ℕ) → Sited d t v maps n by → Sited d t v (mapNumbers d t v) mapCount by
@@ -104,12 +104,12 @@ module _ (d t : List ℕ) (v : View) where
         }
 
     -- where the rows stand in front of a list
-    pub rows-front : (at own : ℕ) (rows r : List ℕ) → rows ≡ joined (placed mapName mapOwn mapRow at own (mapsOf d t v maps n)) ++ r
+    pub rows-front : (at own : ℕ) (rows r : List ℕ) → rows ≡ joined (placed mapName mapOwn mapRow at own (mapsOfNumbers d t v maps n)) ++ r
         → Rows d t v (mapNumbers d t v) mapCount own rows
     unfolding mapRow
     rows-front at own rows r q =
-        let l : length (joined (placed mapName mapOwn mapRow at own (mapsOf d t v maps n))) ≡ n * 27 =
-        length-joined mapName mapOwn mapRow 27 (λ a b m. refl) at own (mapsOf d t v maps n)
+        let l : length (joined (placed mapName mapOwn mapRow at own (mapsOfNumbers d t v maps n))) ≡ n * 27 =
+        length-joined mapName mapOwn mapRow 27 (λ a b m. refl) at own (mapsOfNumbers d t v maps n)
         ∙ ap (λ k. k * 27) (length-map (take n maps) (mapAt d t v) ∙ length-take-le n maps w)
         in
-        rows-table own rows (record { at = at; front = ap (take (n * 27)) q ∙ take-at (joined (placed mapName mapOwn mapRow at own (mapsOf d t v maps n))) r (n * 27) l })
+        rows-table own rows (record { at = at; front = ap (take (n * 27)) q ∙ take-at (joined (placed mapName mapOwn mapRow at own (mapsOfNumbers d t v maps n))) r (n * 27) l })

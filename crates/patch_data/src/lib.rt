@@ -13,8 +13,8 @@ ghost use Rattle.model.specs.PatchList.{patchesOf};
 ghost use Rattle.model.specs.Refusals.{patchRefusal};
 ghost use Rattle.object.specs.View.{objectIn};
 ghost use Rattle.records.specs.Readable.{Readable};
-ghost use Rattle.patch_checks.specs.Entries.{countOf};
-ghost use Rattle.patch_data.specs.Acts.{targetOf, Reached};
+ghost use Rattle.patch_checks.specs.Entries.{entryCount};
+ghost use Rattle.patch_data.specs.Acts.{ownPlaceOf, MapReached};
 ghost use Rattle.patch_data.specs.Ready.{objectMaps, Ready, ownAt, checksAt};
 use lists::copy8;
 use model::SymbolRecord;
@@ -53,12 +53,12 @@ fn patch_symbol(
         Readable (now d) (now t) v
         × (v .sections ≤ length (now by))
         × (from + len ≤ length (now patches))
-        × Reached (now d) (now t) v (now by) (now rows) own y len (length (now bytes))
+        × MapReached (now d) (now t) v (now by) (now rows) own y len (length (now bytes))
         ⌝ }
     ensures { λ r.
         ⌜
         now (bytes .exit)
-        ≡ sets (now (bytes .entry)) (targetOf (now (d .entry)) (now (t .entry)) v (now (by .entry)) (now (rows .entry)) own y)
+        ≡ sets (now (bytes .entry)) (ownPlaceOf (now (d .entry)) (now (t .entry)) v (now (by .entry)) (now (rows .entry)) own y)
         (part (now (patches .entry)) from len)
         ⌝ }
 {
@@ -84,7 +84,7 @@ fn patch_entry(
 )
     requires { ⌜
         Ready (now d) (now t) v (now entries) (now symbols) (now by) (now rows) own
-        × (e < countOf (now entries))
+        × (e < entryCount (now entries))
         × checksAt (now d) (now t) v (now entries) (now patches) e
         × (now bytes ≡ ownAt (now d) (now t) v (now entries) (now patches) e)
         ⌝ }

@@ -32,7 +32,7 @@ use Rattle.symbol_section.specs.Owner.{ownerOf, ownerIn}
 use Rattle.records.specs.declared.MapSource.{MapSource}
 use Rattle.records.specs.Maps.{mapSourceOf}
 use Rattle.records.specs.Readable.{Readable}
-use Rattle.patch_maps.specs.Places.{placeFrom, sourceHome, mapHome, home-below, mapPlaces}
+use Rattle.patch_maps.specs.Places.{firstPlaceFrom, sourceHome, mapHome, home-below, mapPlaces}
 
 -- ---- the first of a list, by its place
 
@@ -40,23 +40,23 @@ module _ (f : ℕ → ℕ) (i : ℕ) where
   abbrev at : ℕ → Bool
   at n = eqb (f n) i
 
-  place-none : (k : ℕ) (ns : List ℕ) → placeFrom k i (map f ns) ≡ 0 → find at ns ≡ none
-  unfolding placeFrom find firstIn
+  place-none : (k : ℕ) (ns : List ℕ) → firstPlaceFrom k i (map f ns) ≡ 0 → find at ns ≡ none
+  unfolding firstPlaceFrom find firstIn
   place-none k [] e = refl
   place-none k (n ∷ ns) e = go (eqb (f n) i) e (place-none (suc k) ns)
     where
-      go : (b : Bool) → cond b (suc k) (placeFrom (suc k) i (map f ns)) ≡ 0 → (placeFrom (suc k) i (map f ns) ≡ 0 → find at ns ≡ none)
+      go : (b : Bool) → cond b (suc k) (firstPlaceFrom (suc k) i (map f ns)) ≡ 0 → (firstPlaceFrom (suc k) i (map f ns) ≡ 0 → find at ns ≡ none)
           → orElse (cond b (some n) none) (find at ns) ≡ none
       go true q r = let no : ⊥ = omega arith in absurd no
       go false q r = r q
 
-  place-past : (k : ℕ) (js : List ℕ) → (placeFrom k i js ≡ 0) ⊎ (k < placeFrom k i js)
-  unfolding placeFrom
+  place-past : (k : ℕ) (js : List ℕ) → (firstPlaceFrom k i js ≡ 0) ⊎ (k < firstPlaceFrom k i js)
+  unfolding firstPlaceFrom
   place-past k [] = inl refl
   place-past k (j ∷ js) = go (eqb j i) (place-past (suc k) js)
     where
-      go : (b : Bool) → (placeFrom (suc k) i js ≡ 0) ⊎ (suc k < placeFrom (suc k) i js)
-          → (cond b (suc k) (placeFrom (suc k) i js) ≡ 0) ⊎ (k < cond b (suc k) (placeFrom (suc k) i js))
+      go : (b : Bool) → (firstPlaceFrom (suc k) i js ≡ 0) ⊎ (suc k < firstPlaceFrom (suc k) i js)
+          → (cond b (suc k) (firstPlaceFrom (suc k) i js) ≡ 0) ⊎ (k < cond b (suc k) (firstPlaceFrom (suc k) i js))
       go true r = inr (omega arith)
       go false (inl q) = inl q
       go false (inr q) = inr (omega arith)
@@ -67,13 +67,13 @@ module _ (f : ℕ → ℕ) (i : ℕ) where
     pub home : f (getD ns q 0) ≡ i
     pub first : find at ns ≡ some (getD ns q 0)
 
-  place-some : (k q : ℕ) (ns : List ℕ) → placeFrom k i (map f ns) ≡ suc (k + q) → Here ns q
-  unfolding placeFrom find firstIn
+  place-some : (k q : ℕ) (ns : List ℕ) → firstPlaceFrom k i (map f ns) ≡ suc (k + q) → Here ns q
+  unfolding firstPlaceFrom find firstIn
   place-some k q [] e = let no : ⊥ = omega arith in absurd no
   place-some k q (n ∷ ns) e = go (eqb (f n) i) refl q e (λ r. place-some (suc k) r ns)
     where
-      go : (b : Bool) → eqb (f n) i ≡ b → (q : ℕ) → cond b (suc k) (placeFrom (suc k) i (map f ns)) ≡ suc (k + q)
-          → ((r : ℕ) → placeFrom (suc k) i (map f ns) ≡ suc (suc k + r) → Here ns r) → Here (n ∷ ns) q
+      go : (b : Bool) → eqb (f n) i ≡ b → (q : ℕ) → cond b (suc k) (firstPlaceFrom (suc k) i (map f ns)) ≡ suc (k + q)
+          → ((r : ℕ) → firstPlaceFrom (suc k) i (map f ns) ≡ suc (suc k + r) → Here ns r) → Here (n ∷ ns) q
       go true t zero g r = record { within = omega arith; home = eqb-true (f n) i t; first = rw t }
       go true t (suc q) g r = let no : ⊥ = omega arith in absurd no
       go false t zero g r = let no : ⊥ = ⊎-elim (λ a. omega arith) (λ a. omega arith) (place-past (suc k) (map f ns)) in absurd no
@@ -106,8 +106,8 @@ ownerPlace by Owner.Nothing = 0
 ownerPlace by (Owner.Section i) = getD by i 0
 
 -- the place that a list of places says for a symbol's section
-abbrev pub placeOf : List ℕ → List ℕ → View → List ℕ → SymbolRecord → ℕ
-placeOf d t v by y = maybe (sectionOf y) 0 (λ k. maybe (ownerIn d t v (k .0)) 0 (λ i. getD by i 0))
+abbrev pub mapPlaceOf : List ℕ → List ℕ → View → List ℕ → SymbolRecord → ℕ
+mapPlaceOf d t v by y = maybe (sectionOf y) 0 (λ k. maybe (ownerIn d t v (k .0)) 0 (λ i. getD by i 0))
 
 module _ (d t : List ℕ) (v : View) (rise : Readable d t v) where
   abbrev indexAt : ℕ → ℕ
@@ -175,9 +175,9 @@ module _ (d t : List ℕ) (v : View) (rise : Readable d t v) where
       pub is : mapFor ≡ some (mapAt d t v (getD ns q 0))
       pub same-home : (n : ℕ) → MapFits d t v n → liesIn (mapAt d t v n .section) (symbolFrom d t v y .section) ≡ eqb (mapHome d t v n) (mapHome d t v (getD ns q 0))
 
-    place-is : (i : ℕ) → i < v .sections → getD by i 0 ≡ placeFrom 0 i (map (mapHome d t v) ns)
+    place-is : (i : ℕ) → i < v .sections → getD by i 0 ≡ firstPlaceFrom 0 i (map (mapHome d t v) ns)
     unfolding mapPlaces
-    place-is i l = sym (getD-take (v .sections) by i 0 l) ∙ ap (λ t. getD t i 0) e ∙ getD-tab (λ i. placeFrom 0 i (map (mapHome d t v) ns)) (v .sections) i 0 l
+    place-is i l = sym (getD-take (v .sections) by i 0 l) ∙ ap (λ t. getD t i 0) e ∙ getD-tab (λ i. firstPlaceFrom 0 i (map (mapHome d t v) ns)) (v .sections) i 0 l
 
     -- no section has the index
     no-owner : (k : SectionIndex) → ownerIn d t v (k .0) ≡ none → (n : ℕ) → MapFits d t v n → lies (some k) n ≡ false
@@ -192,7 +192,7 @@ module _ (d t : List ℕ) (v : View) (rise : Readable d t v) where
         let (l, q) = owned-some (k .0) i u in
         ap (λ j. eqb j (k .0)) (map-section n) ∙ ap (eqb (indexAt (mapHome d t v n))) (sym q) ∙ index-same i (mapHome d t v n) l (home-below d t v n f)
 
-    pub no-map : placeOf d t v by y ≡ 0 → mapFor ≡ none
+    pub no-map : mapPlaceOf d t v by y ≡ 0 → mapFor ≡ none
     unfolding symbolFrom
     no-map z = go (sectionOf y) z
       where
@@ -208,7 +208,7 @@ module _ (d t : List ℕ) (v : View) (rise : Readable d t v) where
         go none z = find-maps none (λ n. false) ns fits (λ n f. refl) ∙ ap mapOr (find-nothing ns)
         go (some k) z = at k (ownerIn d t v (k .0)) refl z
 
-    pub the-map : (q : ℕ) → placeOf d t v by y ≡ suc q → Mapped q
+    pub the-map : (q : ℕ) → mapPlaceOf d t v by y ≡ suc q → Mapped q
     unfolding symbolFrom
     the-map q z = go (sectionOf y) refl z
       where
@@ -233,26 +233,26 @@ module _ (d t : List ℕ) (v : View) (rise : Readable d t v) where
 pub places-front : (d t : List ℕ) (v : View) (ns by r : List ℕ) → by ≡ mapPlaces d t v ns ++ r → take (v .sections) by ≡ mapPlaces d t v ns
 unfolding mapPlaces
 places-front d t v ns by r e =
-    ap (take (v .sections)) e ∙ take-at (mapPlaces d t v ns) r (v .sections) (length-tab (λ i. placeFrom 0 i (map (mapHome d t v) ns)) (v .sections))
+    ap (take (v .sections)) e ∙ take-at (mapPlaces d t v ns) r (v .sections) (length-tab (λ i. firstPlaceFrom 0 i (map (mapHome d t v) ns)) (v .sections))
 
 -- a list of places has one for each section
 pub places-room : (d t : List ℕ) (v : View) (ns by : List ℕ) → take (v .sections) by ≡ mapPlaces d t v ns → v .sections ≤ length by
 unfolding mapPlaces
 places-room d t v ns by e =
-    let l : length (take (v .sections) by) ≡ v .sections = ap length e ∙ length-tab (λ i. placeFrom 0 i (map (mapHome d t v) ns)) (v .sections) in
+    let l : length (take (v .sections) by) ≡ v .sections = ap length e ∙ length-tab (λ i. firstPlaceFrom 0 i (map (mapHome d t v) ns)) (v .sections) in
     omega (arith, length-take (v .sections) by)
 
 -- ---- what a look at the symbol's record and at the list of places answers
 
 module _ (d t : List ℕ) (v : View) (by : List ℕ) (y : SymbolRecord) where
-  pub no-section : isNone (y .section .0) ≡ true → 0 ≡ placeOf d t v by y
+  pub no-section : isNone (y .section .0) ≡ true → 0 ≡ mapPlaceOf d t v by y
   no-section e = rw e
 
   place-by : (o : Option ℕ) (w : Owner) → w ≡ ownerOf o → ownerPlace by w ≡ maybe o 0 (λ i. getD by i 0)
   place-by none w e = rw e
   place-by (some i) w e = rw e
 
-  pub some-section : (w : Owner) → isNone (y .section .0) ≡ false → w ≡ ownerOf (ownerIn d t v (y .section .0)) → ownerPlace by w ≡ placeOf d t v by y
+  pub some-section : (w : Owner) → isNone (y .section .0) ≡ false → w ≡ ownerOf (ownerIn d t v (y .section .0)) → ownerPlace by w ≡ mapPlaceOf d t v by y
   some-section w n e = rw n (place-by (ownerIn d t v (y .section .0)) w e)
 
 pub owner-below : (d t : List ℕ) (v : View) → Readable d t v → (k i : ℕ) → Owner.Section i ≡ ownerOf (ownerIn d t v k) → i < v .sections

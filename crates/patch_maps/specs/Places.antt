@@ -18,9 +18,9 @@ use Rattle.catalogue_numbers.specs.Numbers.{homeAt}
 use Rattle.catalogue_numbers.specs.Fits.{SourceFits, MapFits}
 
 -- one more than the place of the first i, counted from k on; 0 where there is none
-unfoldable pub placeFrom : ℕ → ℕ → List ℕ → ℕ
-placeFrom k i [] = 0
-placeFrom k i (j ∷ js) = cond (eqb j i) (suc k) (placeFrom (suc k) i js)
+unfoldable pub firstPlaceFrom : ℕ → ℕ → List ℕ → ℕ
+firstPlaceFrom k i [] = 0
+firstPlaceFrom k i (j ∷ js) = cond (eqb j i) (suc k) (firstPlaceFrom (suc k) i js)
 
 set-tab : (f : ℕ → ℕ) (n j v : ℕ) (r : List ℕ) → j < n → set (tab f n ++ r) j v ≡ tab (λ i. cond (eqb j i) v (f i)) n ++ r
 set-tab f n j v r h =
@@ -58,15 +58,15 @@ module _ (d t : List ℕ) (v : View) where
 
   -- for each section one more than the place of its first map, or 0
   unfoldable pub mapPlaces : List ℕ → List ℕ
-  mapPlaces ns = tab (λ i. placeFrom 0 i (map mapHome ns)) (v .sections)
+  mapPlaces ns = tab (λ i. firstPlaceFrom 0 i (map mapHome ns)) (v .sections)
 
   -- the same of the maps from place k on
   module _ (maps : List ℕ) (n : ℕ) where
     unfoldable pub placesFrom : ℕ → List ℕ
-    placesFrom k = tab (λ i. placeFrom k i (map mapHome (slice k n maps))) (v .sections)
+    placesFrom k = tab (λ i. firstPlaceFrom k i (map mapHome (slice k n maps))) (v .sections)
 
     places-none : placesFrom n ≡ tab (λ i. 0) (v .sections)
-    unfolding placesFrom placeFrom
+    unfolding placesFrom firstPlaceFrom
     places-none = tab-ext _ _ (v .sections) (λ i l. rw (slice-none n n maps (omega arith)))
 
     -- the list of places, cleared
@@ -75,9 +75,9 @@ module _ (d t : List ℕ) (v : View) where
 
     pub places-more : (k : ℕ) (r : List ℕ) → k < n → n ≤ length maps → mapHome (getD maps k 0) < v .sections
         → set (placesFrom (k + 1) ++ r) (mapHome (getD maps k 0)) (k + 1) ≡ placesFrom k ++ r
-    unfolding placesFrom placeFrom
+    unfolding placesFrom firstPlaceFrom
     places-more k r l m b =
-        set-tab (λ i. placeFrom (k + 1) i (map mapHome (slice (k + 1) n maps))) (v .sections) (mapHome (getD maps k 0)) (k + 1) r b
+        set-tab (λ i. firstPlaceFrom (k + 1) i (map mapHome (slice (k + 1) n maps))) (v .sections) (mapHome (getD maps k 0)) (k + 1) r b
         ∙ ap (λ t. t ++ r) (tab-ext _ _ (v .sections) (λ i q. rw (slice-next k n maps 0 l m, add-one)))
 
     pub places-all : placesFrom 0 ≡ mapPlaces (take n maps)

@@ -7,7 +7,7 @@ ghost use Rattle.lists.specs.Tab.{tab};
 ghost use Rattle.records.specs.Readable.{Readable};
 ghost use Rattle.catalogue_numbers.specs.Fits.{MapFits};
 ghost use Rattle.patch_maps.specs.Places.{mapHome, mapPlaces};
-ghost use Rattle.patch_maps.specs.Found.{placeOf};
+ghost use Rattle.patch_maps.specs.Found.{mapPlaceOf};
 use model::SymbolRecord;
 use object_view::View;
 use object_view::is_no_section;
@@ -67,7 +67,7 @@ pub fn maps_by_section(d: &[u8], t: &[u32], v: View, maps: &[u32], n: usize, by:
 // One more than the place of the first map that has a symbol's section, or 0.
 pub fn place_of(d: &[u8], t: &[u32], v: View, by: &[u32], y: SymbolRecord) -> usize
     requires { ⌜ Readable (now d) (now t) v × (v .sections ≤ length (now by)) ⌝ }
-    ensures { λ r. ⌜ r ≡ placeOf (now (d .entry)) (now (t .entry)) v (now (by .entry)) y ⌝ }
+    ensures { λ r. ⌜ r ≡ mapPlaceOf (now (d .entry)) (now (t .entry)) v (now (by .entry)) y ⌝ }
 {
     let index = y.section;
     if is_no_section(index) {

@@ -105,7 +105,7 @@ module _ (key : ℕ → List ℕ) (word l : List ℕ) where
   keyAt i = key (getD l i 0)
 
   -- r keys are before the word, and no other
-  pub record First (r : ℕ) : Type 0 where
+  pub record FirstNotBefore (r : ℕ) : Type 0 where
     pub within : r ≤ length l
     pub below : (i : ℕ) → i < r → before (keyAt i) word ≡ true
     pub above : (i : ℕ) → r ≤ i → i < length l → before (keyAt i) word ≡ false
@@ -174,7 +174,7 @@ module _ (key : ℕ → List ℕ) (word : List ℕ) where
         let (p, q) = both-true (ltb i (length l)) (same word (keyAt key word l i)) e in
         rw (drop-cons l i 0 (ltb-true i (length l) p), q, add-one)
 
-    module _ (r : ℕ) (f : First key word l r) where
+    module _ (r : ℕ) (f : FirstNotBefore key word l r) where
       front : keep has l ≡ keep has (drop r l)
       front = none-front r l (f .below) (f .within)
 
@@ -198,8 +198,8 @@ module _ (d t : List ℕ) (v : View) where
   nameAt j = symbolAt d t v j .name
 
   -- a name behind its length
-  abbrev pub nameOf : ℕ → List ℕ
-  nameOf j = nameAt j .length ∷ nameIn d v (nameAt j)
+  abbrev pub lengthAndName : ℕ → List ℕ
+  lengthAndName j = nameAt j .length ∷ nameIn d v (nameAt j)
 
   -- n bytes of it
   abbrev cutName : ℕ → ℕ → List ℕ
@@ -225,7 +225,7 @@ module _ (d t : List ℕ) (v : View) where
   by-name-ordered n = sorted-ordered (byKey (cutName n)) (key-order (cutName n)) (upTo (v .symbols))
 
   -- whether a symbol bears a word is seen by its length and by all of its bytes
-  bears-key : (word : List ℕ) (j : ℕ) → same (lengthFirst word) (nameOf j) ≡ same word (nameIn d v (nameAt j))
+  bears-key : (word : List ℕ) (j : ℕ) → same (lengthFirst word) (lengthAndName j) ≡ same word (nameIn d v (nameAt j))
   unfolding same
   bears-key word j = go (eqb (length word) (nameAt j .length)) (same word (nameIn d v (nameAt j))) refl refl
     where
@@ -237,23 +237,23 @@ module _ (d t : List ℕ) (v : View) where
 
   module _ (word : List ℕ) (n : ℕ) (enough : length word ≤ n) (j : ℕ) where
     -- as many bytes as the word has are all of a name of its length
-    cut-none : nameAt j .length ≡ length word → cutName n j ≡ nameOf j
+    cut-none : nameAt j .length ≡ length word → cutName n j ≡ lengthAndName j
     unfolding keyOf cutTo
     cut-none e = let m : min n (nameAt j .length) ≡ nameAt j .length = omega arith in rw m
 
-    before-cut : before (cutName n j) (lengthFirst word) ≡ before (nameOf j) (lengthFirst word)
+    before-cut : before (cutName n j) (lengthFirst word) ≡ before (lengthAndName j) (lengthFirst word)
     unfolding keyOf before
     before-cut = go (eqb (nameAt j .length) (length word)) refl
       where
-        go : (b : Bool) → eqb (nameAt j .length) (length word) ≡ b → before (cutName n j) (lengthFirst word) ≡ before (nameOf j) (lengthFirst word)
+        go : (b : Bool) → eqb (nameAt j .length) (length word) ≡ b → before (cutName n j) (lengthFirst word) ≡ before (lengthAndName j) (lengthFirst word)
         go true e = ap (λ (k : List ℕ). before k (lengthFirst word)) (cut-none (eqb-true (nameAt j .length) (length word) e))
         go false e = rw e
 
-    same-cut : same (lengthFirst word) (cutName n j) ≡ same (lengthFirst word) (nameOf j)
+    same-cut : same (lengthFirst word) (cutName n j) ≡ same (lengthFirst word) (lengthAndName j)
     unfolding keyOf same
     same-cut = go (eqb (length word) (nameAt j .length)) refl
       where
-        go : (b : Bool) → eqb (length word) (nameAt j .length) ≡ b → same (lengthFirst word) (cutName n j) ≡ same (lengthFirst word) (nameOf j)
+        go : (b : Bool) → eqb (length word) (nameAt j .length) ≡ b → same (lengthFirst word) (cutName n j) ≡ same (lengthFirst word) (lengthAndName j)
         go true e = ap (same (lengthFirst word)) (cut-none (sym (eqb-true (length word) (nameAt j .length) e)))
         go false e = rw e
 
@@ -278,37 +278,37 @@ module _ (d t : List ℕ) (v : View) where
     ordered : Ordered (byKey key) order
     ordered = rw (s .is) (by-name-ordered (s .bytes))
 
-    at-cut : (i : ℕ) → before (keyAt key (lengthFirst word) order i) (lengthFirst word) ≡ before (keyAt nameOf (lengthFirst word) order i) (lengthFirst word)
+    at-cut : (i : ℕ) → before (keyAt key (lengthFirst word) order i) (lengthFirst word) ≡ before (keyAt lengthAndName (lengthFirst word) order i) (lengthFirst word)
     at-cut i = before-cut word (s .bytes) known (getD order i 0)
 
     -- what holds of the name at m holds of those in front of it, or of those behind it
-    pub names-below : (m : ℕ) → m < length order → before (keyAt nameOf (lengthFirst word) order m) (lengthFirst word) ≡ true
-        → (i : ℕ) → i < m + 1 → before (keyAt nameOf (lengthFirst word) order i) (lengthFirst word) ≡ true
+    pub names-below : (m : ℕ) → m < length order → before (keyAt lengthAndName (lengthFirst word) order m) (lengthFirst word) ≡ true
+        → (i : ℕ) → i < m + 1 → before (keyAt lengthAndName (lengthFirst word) order i) (lengthFirst word) ≡ true
     names-below m k q i n = sym (at-cut i) ∙ all-below key (lengthFirst word) order ordered m k (at-cut m ∙ q) i n
 
-    pub names-above : (m : ℕ) → before (keyAt nameOf (lengthFirst word) order m) (lengthFirst word) ≡ false
-        → (i : ℕ) → m ≤ i → i < length order → before (keyAt nameOf (lengthFirst word) order i) (lengthFirst word) ≡ false
+    pub names-above : (m : ℕ) → before (keyAt lengthAndName (lengthFirst word) order m) (lengthFirst word) ≡ false
+        → (i : ℕ) → m ≤ i → i < length order → before (keyAt lengthAndName (lengthFirst word) order i) (lengthFirst word) ≡ false
     names-above m q i n k = sym (at-cut i) ∙ all-above key (lengthFirst word) order ordered m (at-cut m ∙ q) i n k
 
     -- what a look at the first two that are not before the word tells
-    module _ (r : ℕ) (f : First nameOf (lengthFirst word) order r) where
-      first-cut : First key (lengthFirst word) order r
+    module _ (r : ℕ) (f : FirstNotBefore lengthAndName (lengthFirst word) order r) where
+      first-cut : FirstNotBefore key (lengthFirst word) order r
       first-cut = record { within = f .within; below = λ i l. at-cut i ∙ f .below i l; above = λ i l m. at-cut i ∙ f .above i l m }
 
-      has-cut : (i : ℕ) → hasAt key (lengthFirst word) order i ≡ hasAt nameOf (lengthFirst word) order i
+      has-cut : (i : ℕ) → hasAt key (lengthFirst word) order i ≡ hasAt lengthAndName (lengthFirst word) order i
       has-cut i = ap (λ (b : Bool). ltb i (length order) && b) (same-cut word (s .bytes) known (getD order i 0))
 
       kept : bearerOf (keep (λ j. same (lengthFirst word) (key j)) order) ≡ bearerOf (bearersIn d t v word)
       kept = ap bearerOf (ap (keep (λ j. same (lengthFirst word) (key j))) (s .is) ∙ bearers-sorted word (s .bytes) known)
 
-      pub nobody-bears : hasAt nameOf (lengthFirst word) order r ≡ false → Bearer.Nothing ≡ bearerOf (bearersIn d t v word)
+      pub nobody-bears : hasAt lengthAndName (lengthFirst word) order r ≡ false → Bearer.Nothing ≡ bearerOf (bearersIn d t v word)
       nobody-bears p = sym (nobody key (lengthFirst word) order ordered r first-cut (has-cut r ∙ p)) ∙ kept
 
-      pub one-bears : hasAt nameOf (lengthFirst word) order r ≡ true → hasAt nameOf (lengthFirst word) order (r + 1) ≡ false
+      pub one-bears : hasAt lengthAndName (lengthFirst word) order r ≡ true → hasAt lengthAndName (lengthFirst word) order (r + 1) ≡ false
           → Bearer.One (getD order r 0) ≡ bearerOf (bearersIn d t v word)
       one-bears p q = sym (one key (lengthFirst word) order ordered r first-cut (has-cut r ∙ p) (has-cut (r + 1) ∙ q)) ∙ kept
 
-      pub several-bear : hasAt nameOf (lengthFirst word) order r ≡ true → hasAt nameOf (lengthFirst word) order (r + 1) ≡ true
+      pub several-bear : hasAt lengthAndName (lengthFirst word) order r ≡ true → hasAt lengthAndName (lengthFirst word) order (r + 1) ≡ true
           → Bearer.Several ≡ bearerOf (bearersIn d t v word)
       several-bear p q = sym (several key (lengthFirst word) order ordered r first-cut (has-cut r ∙ p) (has-cut (r + 1) ∙ q)) ∙ kept
 

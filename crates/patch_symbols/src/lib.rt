@@ -6,7 +6,7 @@ ghost use Rattle.model.specs.Bytes.{same, before};
 ghost use Rattle.orders.specs.Compare.{ordering};
 ghost use Rattle.records.specs.Readable.{Readable};
 ghost use Rattle.patch_symbols.specs.Bearers.{bearerOf, bearersIn};
-ghost use Rattle.patch_symbols.specs.Search.{First, Searchable, hasAt, lengthFirst, nameOf, byName};
+ghost use Rattle.patch_symbols.specs.Search.{FirstNotBefore, Searchable, hasAt, lengthFirst, lengthAndName, byName};
 use object_view::View;
 use orders::Ordering;
 use record_keys::By;
@@ -34,7 +34,7 @@ pub fn by_name(d: &[u8], t: &[u32], v: View, n: u32, symbols: &mut [u32], tmp: &
 // How the name of symbol j stands to a word: by the lengths, and where they are the same by the bytes.
 fn compare(d: &[u8], t: &[u32], v: View, j: u32, word: &[u8]) -> Ordering
     requires { ⌜ length (now word) < 2 ^ 60 ⌝ }
-    ensures { λ r. ⌜ r ≡ ordering (nameOf (now (d .entry)) (now (t .entry)) v j) (lengthFirst (now (word .entry))) ⌝ }
+    ensures { λ r. ⌜ r ≡ ordering (lengthAndName (now (d .entry)) (now (t .entry)) v j) (lengthFirst (now (word .entry))) ⌝ }
 {
     let name = symbol_name(d, t, v, j);
     let n = size(name.length);
@@ -50,7 +50,7 @@ fn compare(d: &[u8], t: &[u32], v: View, j: u32, word: &[u8]) -> Ordering
 
 fn is_before(d: &[u8], t: &[u32], v: View, j: u32, word: &[u8]) -> bool
     requires { ⌜ length (now word) < 2 ^ 60 ⌝ }
-    ensures { λ r. ⌜ r ≡ before (nameOf (now (d .entry)) (now (t .entry)) v j) (lengthFirst (now (word .entry))) ⌝ }
+    ensures { λ r. ⌜ r ≡ before (lengthAndName (now (d .entry)) (now (t .entry)) v j) (lengthFirst (now (word .entry))) ⌝ }
 {
     match compare(d, t, v, j, word) {
         Ordering::Less => true,
@@ -61,7 +61,7 @@ fn is_before(d: &[u8], t: &[u32], v: View, j: u32, word: &[u8]) -> bool
 
 fn is_same(d: &[u8], t: &[u32], v: View, j: u32, word: &[u8]) -> bool
     requires { ⌜ length (now word) < 2 ^ 60 ⌝ }
-    ensures { λ r. ⌜ r ≡ same (lengthFirst (now (word .entry))) (nameOf (now (d .entry)) (now (t .entry)) v j) ⌝ }
+    ensures { λ r. ⌜ r ≡ same (lengthFirst (now (word .entry))) (lengthAndName (now (d .entry)) (now (t .entry)) v j) ⌝ }
 {
     match compare(d, t, v, j, word) {
         Ordering::Less => false,
@@ -73,7 +73,7 @@ fn is_same(d: &[u8], t: &[u32], v: View, j: u32, word: &[u8]) -> bool
 // Whether a symbol stands at a place and bears the name.
 fn bears_at(d: &[u8], t: &[u32], v: View, symbols: &[u32], at: usize, word: &[u8]) -> bool
     requires { ⌜ length (now word) < 2 ^ 60 ⌝ }
-    ensures { λ r. ⌜ r ≡ hasAt (nameOf (now (d .entry)) (now (t .entry)) v) (lengthFirst (now (word .entry))) (now (symbols .entry)) at ⌝ }
+    ensures { λ r. ⌜ r ≡ hasAt (lengthAndName (now (d .entry)) (now (t .entry)) v) (lengthFirst (now (word .entry))) (now (symbols .entry)) at ⌝ }
 {
     if at < symbols.len() {
         is_same(d, t, v, symbols[at], word)
@@ -85,7 +85,7 @@ fn bears_at(d: &[u8], t: &[u32], v: View, symbols: &[u32], at: usize, word: &[u8
 // The place of the first symbol whose name is not before the word, or how many there are.
 fn lower_bound(d: &[u8], t: &[u32], v: View, symbols: &[u32], word: &[u8]) -> usize
     requires { ⌜ Searchable (now d) (now t) v (now symbols) (length (now word)) × (length (now word) ≤ 65535) ⌝ }
-    ensures { λ r. ⌜ First (nameOf (now (d .entry)) (now (t .entry)) v) (lengthFirst (now (word .entry))) (now (symbols .entry)) r ⌝ }
+    ensures { λ r. ⌜ FirstNotBefore (lengthAndName (now (d .entry)) (now (t .entry)) v) (lengthFirst (now (word .entry))) (now (symbols .entry)) r ⌝ }
 {
     let mut low: usize = 0;
     let mut high: usize = symbols.len();

@@ -42,8 +42,8 @@ abbrev readAs : ℕ → Option (List ℕ) → Found
 readAs n none = alone n
 readAs n (some q) = withSecond n (wordNumber wordTable q)
 
-abbrev pub answer : ℕ → Option (List ℕ) → Found
-answer n q = cond (ltb n 0x10000) (Found.Program (rowVariant n)) (cond (ltb n 0x60000) (readAs n q) Found.Nothing)
+abbrev pub pieceAnswer : ℕ → Option (List ℕ) → Found
+pieceAnswer n q = cond (ltb n 0x10000) (Found.Program (rowVariant n)) (cond (ltb n 0x60000) (readAs n q) Found.Nothing)
 
 -- ---- words of the table, and words that it lacks
 
@@ -146,15 +146,15 @@ tells-grid f g es [] a b = tt
 tells-grid f g es (x ∷ fs) a b = (tells-each (f x) (g x) es (cc) (cc), tells-grid f g es fs (cc) (cc))
 
 abbrev TellsAt : Option (List ℕ) → Entry → Type 0
-TellsAt q e = Tells (answer (e .number) q) (firstIn (rowGives (e .word) q) readings)
+TellsAt q e = Tells (pieceAnswer (e .number) q) (firstIn (rowGives (e .word) q) readings)
 
 answering-tell : (q : Option (List ℕ)) → Each (TellsAt q) answering
 unfolding answering readings firstIn same fits variantOf programFrom
-answering-tell q = tells-each (λ e. answer (e .number) q) (λ e. firstIn (rowGives (e .word) q) readings) answering refl refl
+answering-tell q = tells-each (λ e. pieceAnswer (e .number) q) (λ e. firstIn (rowGives (e .word) q) readings) answering refl refl
 
 second-tell : (q : Option (List ℕ)) → Each (TellsAt q) second
 unfolding second readings firstIn same fits variantOf programFrom
-second-tell q = tells-each (λ e. answer (e .number) q) (λ e. firstIn (rowGives (e .word) q) readings) second refl refl
+second-tell q = tells-each (λ e. pieceAnswer (e .number) q) (λ e. firstIn (rowGives (e .word) q) readings) second refl refl
 
 -- first pieces that read a second, by the number of it
 abbrev ReadAt : List ℕ → ℕ → Type 0
@@ -176,13 +176,13 @@ read-lacked s m =
 
 reading-tell : (q : Option (List ℕ)) → Each (TellsAt q) reading
 unfolding reading readings firstIn same fits variantOf programFrom
-reading-tell none = tells-each (λ e. answer (e .number) none) (λ e. firstIn (rowGives (e .word) none) readings) reading refl refl
+reading-tell none = tells-each (λ e. pieceAnswer (e .number) none) (λ e. firstIn (rowGives (e .word) none) readings) reading refl refl
 reading-tell (some s) = by-words s ReadAt wordTable read-words (read-lacked s)
 
 -- the answer by the numbers of a name's two pieces
-pub tells : (p : List ℕ) (q : Option (List ℕ)) → Tells (answer (wordNumber wordTable p) q) (firstIn (rowGives p q) readings)
+pub tells : (p : List ℕ) (q : Option (List ℕ)) → Tells (pieceAnswer (wordNumber wordTable p) q) (firstIn (rowGives p q) readings)
 unfolding wordTable
 tells p q =
-    by-words p (λ w n. Tells (answer n q) (firstIn (rowGives w q) readings)) wordTable
+    by-words p (λ w n. Tells (pieceAnswer n q) (firstIn (rowGives w q) readings)) wordTable
     (each-append (TellsAt q) answering (reading ++ second) (answering-tell q) (each-append (TellsAt q) reading second (reading-tell q) (second-tell q)))
     (λ m. rw (lacked p q m) (record { shows = refl; gives = refl }))

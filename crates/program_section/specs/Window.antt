@@ -17,7 +17,7 @@ use Rattle.program_section.specs.Pieces.{until, until-le, piece, first-p
 use Rattle.program_section.specs.Short.{long-name}
 use Rattle.program_section.specs.Found.{rowVariant, Tells}
 use Rattle.program_section.specs.Words.{Entry, answering, reading, second, wordTable, noWord, wordNumber, short-word}
-use Rattle.program_section.specs.Table.{alone, withSecond, answer, Each, by-words, tells}
+use Rattle.program_section.specs.Table.{alone, withSecond, pieceAnswer, Each, by-words, tells}
 
 drop-take : (k m : ℕ) (l : List ℕ) → drop k (take m l) ≡ take (m - k) (drop k l)
 drop-take zero m l = let e : m ≡ m - 0 = omega arith in ap (λ (n : ℕ). take n l) e
@@ -97,7 +97,7 @@ module _ (v : List ℕ) (m : ℕ) (inside : m ≤ length v) where
 
   -- n is the number of the first piece
   module _ (f n : ℕ) (e : f ≡ until name) (is : n ≡ wordNumber wordTable (take f v)) where
-    told : Tells (answer n (secondPiece (cut name))) (programOf name)
+    told : Tells (pieceAnswer n (secondPiece (cut name))) (programOf name)
     unfolding programOf
     told =
         let k : n ≡ wordNumber wordTable (firstPiece (cut name)) = is ∙ ap (λ (x : ℕ). wordNumber wordTable (take x v)) e ∙ ap (wordNumber wordTable) (sym first-in) in

@@ -43,8 +43,8 @@ each-cons p x xs = length-append (p x) (each p xs)
 
 module _ (d t : List ℕ) (v : View) where
   -- the function of a symbol's number
-  abbrev pub functionOf : ℕ → Function
-  functionOf = functionBy d t v
+  abbrev pub functionOfNumber : ℕ → Function
+  functionOfNumber = functionBy d t v
 
   -- n rows are to be stored, whose names and code begin at a and c
   abbrev pub rowsFrom : ℕ → ℕ → ℕ → Rows
@@ -70,10 +70,10 @@ module _ (d t : List ℕ) (v : View) where
     unfolding functionAt symbolFrom
     plain-code = length-each-eight _ ∙ ap (λ (n : ℕ). n * 8) (length-instructions (y .size / 8) _)
 
-    name-length : length (functionName (functionOf j)) ≡ y .name .length
+    name-length : length (functionName (functionOfNumber j)) ≡ y .name .length
     name-length = ap (λ (f : Function). length (functionName f)) (function-is d t v j) ∙ plain-name
 
-    code-length : length (functionCode (functionOf j)) ≡ codeLength y
+    code-length : length (functionCode (functionOfNumber j)) ≡ codeLength y
     code-length = ap (λ (f : Function). length (functionCode f)) (function-is d t v j) ∙ plain-code
 
     module _ (n a c : ℕ) where
@@ -81,15 +81,15 @@ module _ (d t : List ℕ) (v : View) where
       unfolding functionRow rowMade functionAt sectionFrom symbolFrom
       plain-row = λ k. record { section = s .index; address = y .address; offset = startOf d t v j; name = range a (plain-name k); code = range c (plain-code k) }
 
-      row-is : rowMade d t j (rowsFrom n a c) .row ≡ functionRow a c (functionOf j)
+      row-is : rowMade d t j (rowsFrom n a c) .row ≡ functionRow a c (functionOfNumber j)
       row-is = sym (ap (functionRow a c) (function-is d t v j) ∙ plain-row)
 
-      rest-is : a + length (functionName (functionOf j)) ≤ top → c + length (functionCode (functionOf j)) ≤ top
-          → rowMade d t j (rowsFrom n a c) .rest ≡ rowsFrom n (a + length (functionName (functionOf j))) (c + length (functionCode (functionOf j)))
+      rest-is : a + length (functionName (functionOfNumber j)) ≤ top → c + length (functionCode (functionOfNumber j)) ≤ top
+          → rowMade d t j (rowsFrom n a c) .rest ≡ rowsFrom n (a + length (functionName (functionOfNumber j))) (c + length (functionCode (functionOfNumber j)))
       unfolding rowMade
       rest-is p q =
-          let e : min (a + y .name .length) top ≡ a + length (functionName (functionOf j)) = under-top _ _ (ap (λ (m : ℕ). a + m) (sym name-length)) p in
-          let f : min (c + codeLength y) top ≡ c + length (functionCode (functionOf j)) = under-top _ _ (ap (λ (m : ℕ). c + m) (sym code-length)) q in
+          let e : min (a + y .name .length) top ≡ a + length (functionName (functionOfNumber j)) = under-top _ _ (ap (λ (m : ℕ). a + m) (sym name-length)) p in
+          let f : min (c + codeLength y) top ≡ c + length (functionCode (functionOfNumber j)) = under-top _ _ (ap (λ (m : ℕ). c + m) (sym code-length)) q in
           λ k. record { view = v; count = n; name = e k; code = f k }
 
   -- ---- all of them
@@ -105,7 +105,7 @@ module _ (d t : List ℕ) (v : View) where
     abbrev rowsAt : ℕ → ℕ → List Function → List FunctionRow
     rowsAt = placed functionName functionCode functionRow
 
-    past : (m i a c : ℕ) → n ≤ i → rowsMade d t order i (rowsFrom n a c) m ≡ filled zeroRow m (rowsAt a c (map functionOf (from i)))
+    past : (m i a c : ℕ) → n ≤ i → rowsMade d t order i (rowsFrom n a c) m ≡ filled zeroRow m (rowsAt a c (map functionOfNumber (from i)))
     unfolding placed
     past m i a c l =
         let g : length (take n order) ≤ i = rw long l in
@@ -114,17 +114,17 @@ module _ (d t : List ℕ) (v : View) where
         rows-past d t order i (rowsFrom n a c) m l ∙ rw (e, f)
 
     filled-more : (m a c j : ℕ) (js : List ℕ)
-        → functionRow a c (functionOf j) ∷ filled zeroRow m (rowsAt (a + length (functionName (functionOf j))) (c + length (functionCode (functionOf j))) (map functionOf js))
-        ≡ filled zeroRow (suc m) (rowsAt a c (map functionOf (j ∷ js)))
+        → functionRow a c (functionOfNumber j) ∷ filled zeroRow m (rowsAt (a + length (functionName (functionOfNumber j))) (c + length (functionCode (functionOfNumber j))) (map functionOfNumber js))
+        ≡ filled zeroRow (suc m) (rowsAt a c (map functionOfNumber (j ∷ js)))
     unfolding placed
     filled-more m a c j js =
-        let xs : List FunctionRow = rowsAt (a + length (functionName (functionOf j))) (c + length (functionCode (functionOf j))) (map functionOf js) in
+        let xs : List FunctionRow = rowsAt (a + length (functionName (functionOfNumber j))) (c + length (functionCode (functionOfNumber j))) (map functionOfNumber js) in
         let e : suc m - suc (length xs) ≡ m - length xs = omega arith in
         rw e
 
     -- the names and the code from number i on end where they can be told
     abbrev Ends : ℕ → ℕ → ℕ → Type 0
-    Ends i a c = (a + length (each functionName (map functionOf (from i))) ≤ top) × (c + length (each functionCode (map functionOf (from i))) ≤ top)
+    Ends i a c = (a + length (each functionName (map functionOfNumber (from i))) ≤ top) × (c + length (each functionCode (map functionOfNumber (from i))) ≤ top)
 
     -- the row of number i, and those behind it
     module _ (m i a c : ℕ) (lt : i < n) (ends : Ends i a c) where
@@ -132,33 +132,33 @@ module _ (d t : List ℕ) (v : View) where
       j = getD order i 0
 
       abbrev a′ : ℕ
-      a′ = a + length (functionName (functionOf j))
+      a′ = a + length (functionName (functionOfNumber j))
 
       abbrev c′ : ℕ
-      c′ = c + length (functionCode (functionOf j))
+      c′ = c + length (functionCode (functionOfNumber j))
 
       cut : from i ≡ j ∷ from (suc i)
       cut = let within : i < length (take n order) = rw long lt in drop-cons (take n order) i 0 within ∙ rw (getD-take n order i 0 lt)
 
-      part-of : (p : Function → List ℕ) → length (each p (map functionOf (from i))) ≡ length (p (functionOf j)) + length (each p (map functionOf (from (suc i))))
-      part-of p = ap (λ (js : List ℕ). length (each p (map functionOf js))) cut ∙ each-cons p (functionOf j) (map functionOf (from (suc i)))
+      part-of : (p : Function → List ℕ) → length (each p (map functionOfNumber (from i))) ≡ length (p (functionOfNumber j)) + length (each p (map functionOfNumber (from (suc i))))
+      part-of p = ap (λ (js : List ℕ). length (each p (map functionOfNumber js))) cut ∙ each-cons p (functionOfNumber j) (map functionOfNumber (from (suc i)))
 
       ends-behind : Ends (suc i) a′ c′
       ends-behind = (omega (arith, part-of functionName, ends .0), omega (arith, part-of functionCode, ends .1))
 
-      next-stored : rowsMade d t order (suc i) (rowsFrom n a′ c′) m ≡ filled zeroRow m (rowsAt a′ c′ (map functionOf (from (suc i))))
-          → rowsMade d t order i (rowsFrom n a c) (suc m) ≡ filled zeroRow (suc m) (rowsAt a c (map functionOf (from i)))
+      next-stored : rowsMade d t order (suc i) (rowsFrom n a′ c′) m ≡ filled zeroRow m (rowsAt a′ c′ (map functionOfNumber (from (suc i))))
+          → rowsMade d t order i (rowsFrom n a c) (suc m) ≡ filled zeroRow (suc m) (rowsAt a c (map functionOfNumber (from i)))
       unfolding rowsMade
       next-stored e =
           let made : madeOf d t order i (rowsFrom n a c) ≡ rowMade d t j (rowsFrom n a c) =
           made-row d t order i (rowsFrom n a c) (lt-ltb i n lt) (lt-ltb i (length order) (omega arith))
           in
           rw (made, row-is j n a c, rest-is j n a c (omega (arith, part-of functionName, ends .0)) (omega (arith, part-of functionCode, ends .1)))
-          (ap (λ (rs : List FunctionRow). functionRow a c (functionOf j) ∷ rs) e
+          (ap (λ (rs : List FunctionRow). functionRow a c (functionOfNumber j) ∷ rs) e
           ∙ filled-more m a c j (from (suc i))
-          ∙ ap (λ (js : List ℕ). filled zeroRow (suc m) (rowsAt a c (map functionOf js))) (sym cut))
+          ∙ ap (λ (js : List ℕ). filled zeroRow (suc m) (rowsAt a c (map functionOfNumber js))) (sym cut))
 
-    stored-from : (m i a c : ℕ) → i ≤ n → n - i ≤ m → Ends i a c → rowsMade d t order i (rowsFrom n a c) m ≡ filled zeroRow m (rowsAt a c (map functionOf (from i)))
+    stored-from : (m i a c : ℕ) → i ≤ n → n - i ≤ m → Ends i a c → rowsMade d t order i (rowsFrom n a c) m ≡ filled zeroRow m (rowsAt a c (map functionOfNumber (from i)))
     stored-from zero i a c l room ends = past zero i a c (omega arith)
     stored-from (suc m) i a c l room ends =
         ⊎-elim (λ e. past (suc m) i a c (omega arith))
@@ -166,6 +166,6 @@ module _ (d t : List ℕ) (v : View) where
         (eq-or-lt-of-le l)
 
     -- the table that is stored is the catalogue's, where its names and code end below 2^64
-    pub rows-are : (m a c : ℕ) → n ≤ m → a + length (each functionName (map functionOf (take n order))) < 2 ^ 64 → c + length (each functionCode (map functionOf (take n order))) < 2 ^ 64
-        → rowsMade d t order 0 (rowsFrom n a c) m ≡ filled zeroRow m (placed functionName functionCode functionRow a c (map functionOf (take n order)))
+    pub rows-are : (m a c : ℕ) → n ≤ m → a + length (each functionName (map functionOfNumber (take n order))) < 2 ^ 64 → c + length (each functionCode (map functionOfNumber (take n order))) < 2 ^ 64
+        → rowsMade d t order 0 (rowsFrom n a c) m ≡ filled zeroRow m (placed functionName functionCode functionRow a c (map functionOfNumber (take n order)))
     rows-are m a c l p q = stored-from m 0 a c (omega arith) (omega arith) (omega arith, omega arith)

@@ -21,17 +21,17 @@ abbrev pub middleOf : Search → ℕ
 middleOf s = middle (s .low) (s .high)
 
 -- the rows from low up to high are left
-abbrev pub left : ℕ → ℕ → Search
-left low high = record { low = low; high = high; found = Found.Nothing }
+abbrev pub rowsLeft : ℕ → ℕ → Search
+rowsLeft low high = record { low = low; high = high; found = Found.Nothing }
 
 abbrev pub begun : ℕ → ℕ → Search
-begun count n = left 0 (min count n)
+begun count n = rowsLeft 0 (min count n)
 
 -- which rows are left of a search, by how the key of the row in its middle m stands to the key
 abbrev pub narrowedBy : Search → ℕ → Ordering → Search
-narrowedBy s m Ordering.Less = left (m + 1) (s .high)
+narrowedBy s m Ordering.Less = rowsLeft (m + 1) (s .high)
 narrowedBy s m Ordering.Equal = record { low = m; high = m; found = Found.At m }
-narrowedBy s m Ordering.Greater = left (s .low) m
+narrowedBy s m Ordering.Greater = rowsLeft (s .low) m
 
 module _ (k : List ℕ) where
   unfoldable pub narrowed : Search → Function → Search
@@ -70,7 +70,7 @@ module _ (k : List ℕ) where
     unfoldable pub foundBy : ℕ → Search → Found
     foundBy n s = cond (ltb (s .low) (s .high)) (searched fs k n (s .low) (s .high)) (s .found)
 
-    found-left : (n low high : ℕ) → foundBy n (left low high) ≡ searched fs k n low high
+    found-left : (n low high : ℕ) → foundBy n (rowsLeft low high) ≡ searched fs k n low high
     unfolding foundBy
     found-left n low high = go (ltb low high) refl
       where

@@ -108,7 +108,10 @@ pub fn next_row(d: &[u8], t: &[u32], symbols: &[u32], i: usize, rows: Rows) -> M
 
 pub fn fill(functions: &mut [Function], d: &[u8], t: &[u32], symbols: &[u32], rows: Rows)
     requires { ⌜ ReadableRows (now d) (now t) rows ⌝ }
-    ensures { λ _. ⌜ now (functions .exit) ≡ rowsMade (now (d .entry)) (now (t .entry)) (now (symbols .entry)) 0 rows (length (now (functions .entry))) ⌝ }
+    ensures { λ _.
+        ⌜
+        now (functions .exit) ≡ rowsMade (now (d .entry)) (now (t .entry)) (now (symbols .entry)) 0 rows (length (now (functions .entry)))
+        ⌝ }
 {
     let n = functions.len();
     let mut at = rows;

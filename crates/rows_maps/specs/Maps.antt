@@ -31,8 +31,8 @@ module _ (d t : List ℕ) (v : View) where
   legacyAt j = legacyMap (sectionIn d t v (homeAt d t v j)) (symbolIn d t v j)
 
   -- its record lies in the data of its section
-  abbrev pub Within : ℕ → Type 0
-  Within j = symbolAt d t v j .address + symbolAt d t v j .size ≤ sectionAt d t v (homeAt d t v j) .bytes .length
+  abbrev pub RecordWithin : ℕ → Type 0
+  RecordWithin j = symbolAt d t v j .address + symbolAt d t v j .size ≤ sectionAt d t v (homeAt d t v j) .bytes .length
 
   pub data-is : (n i : ℕ) (s : SectionRecord) → mapSourceOf (v .sections) n ≡ MapSource.Section i → s ≡ sectionAt d t v i
       → rowBy (s .name .length) (s .index .0) (kindNumber (kindOf (sectionFrom d t v s))) 0 (length (ownBytes d t v n)) (dataWords (kindOf (sectionFrom d t v s)) (s .size))
@@ -42,10 +42,10 @@ module _ (d t : List ℕ) (v : View) where
 
   module _ (j : ℕ) (y : SymbolRecord) (s : SectionRecord) (ey : y ≡ symbolAt d t v j) (es : s ≡ sectionAt d t v (homeAt d t v j)) where
     -- what was read lies in the data too
-    pub within-by : Within j → y .address + y .size ≤ s .bytes .length
+    pub within-by : RecordWithin j → y .address + y .size ≤ s .bytes .length
     within-by w = rw (es, ey) w
 
-    pub legacy-is : Within j
+    pub legacy-is : RecordWithin j
         → rowBy (y .name .length) (s .index .0) (kindNumber Kind.Maps) (y .index .0) 0 (wordsOf (bytesAt d (gapOf v) (v .at .bytes + s .bytes .at + y .address) (y .size)))
         ≡ mapRowOf (legacyAt j)
     unfolding mapRowOf legacyMap recordOf sectionFrom symbolFrom

@@ -43,12 +43,12 @@ sevenWords w =
     ∷ getD (w .words) 6 0
     ∷ []
 
-abbrev pub front : ℕ → ℕ → Row → List ℕ
-front place own r = place ∷ r .length ∷ r .section ∷ r .kind ∷ r .symbol ∷ own ∷ r .own ∷ []
+abbrev pub rowFront : ℕ → ℕ → Row → List ℕ
+rowFront place own r = place ∷ r .length ∷ r .section ∷ r .kind ∷ r .symbol ∷ own ∷ r .own ∷ []
 
 -- with its two places, and 13 zeros behind the words
 abbrev pub numbers : ℕ → ℕ → Row → List ℕ
-numbers place own r = front place own r ++ (sevenWords (r .def) ++ replicate 13 0)
+numbers place own r = rowFront place own r ++ (sevenWords (r .def) ++ replicate 13 0)
 
 row-numbers : (a b : ℕ) (m : Map) → numbers a b (mapRowOf m) ≡ mapRow a b m
 unfolding mapRowOf mapRow
@@ -63,27 +63,27 @@ module _ (d t : List ℕ) (v : View) where
   abbrev pub mapRows : ℕ → ℕ → List ℕ → List ℕ
   mapRows at own ns = joined (placed mapName mapOwn mapRow at own (map (mapAt d t v) ns))
 
-  abbrev pub nameOf : ℕ → List ℕ
-  nameOf n = mapName (mapAt d t v n)
+  abbrev pub mapNameIn : ℕ → List ℕ
+  mapNameIn n = mapName (mapAt d t v n)
 
-  abbrev pub ownOf : ℕ → List ℕ
-  ownOf n = mapOwn (mapAt d t v n)
+  abbrev pub ownBytesIn : ℕ → List ℕ
+  ownBytesIn n = mapOwn (mapAt d t v n)
 
   -- the row of the next number
   module _ (order : List ℕ) (k : ℕ) (r : Row) (read : r ≡ mapRowOf (mapAt d t v (getD order k 0))) where
     -- where the name and the own bytes behind its lie
-    pub place-next : (at place : ℕ) → place ≡ at + length (each nameOf (take k order)) → k < length order
-        → place + r .length ≡ at + length (each nameOf (take (k + 1) order))
+    pub place-next : (at place : ℕ) → place ≡ at + length (each mapNameIn (take k order)) → k < length order
+        → place + r .length ≡ at + length (each mapNameIn (take (k + 1) order))
     unfolding mapRowOf
-    place-next at place e l = let g : r .length ≡ length (nameOf (getD order k 0)) = rw read in omega (arith, each-longer nameOf order 0 k l)
+    place-next at place e l = let g : r .length ≡ length (mapNameIn (getD order k 0)) = rw read in omega (arith, each-longer mapNameIn order 0 k l)
 
-    pub own-next : (own place : ℕ) → place ≡ own + length (each ownOf (take k order)) → k < length order
-        → place + r .own ≡ own + length (each ownOf (take (k + 1) order))
+    pub own-next : (own place : ℕ) → place ≡ own + length (each ownBytesIn (take k order)) → k < length order
+        → place + r .own ≡ own + length (each ownBytesIn (take (k + 1) order))
     unfolding mapRowOf
-    own-next own place e l = let g : r .own ≡ length (ownOf (getD order k 0)) = rw read in omega (arith, each-longer ownOf order 0 k l)
+    own-next own place e l = let g : r .own ≡ length (ownBytesIn (getD order k 0)) = rw read in omega (arith, each-longer ownBytesIn order 0 k l)
 
     -- one row more, in a table whose front are those of k maps
-    pub rows-more : (at own a b : ℕ) (out₀ out : List ℕ) → a ≡ at + length (each nameOf (take k order)) → b ≡ own + length (each ownOf (take k order))
+    pub rows-more : (at own a b : ℕ) (out₀ out : List ℕ) → a ≡ at + length (each mapNameIn (take k order)) → b ≡ own + length (each ownBytesIn (take k order))
         → k < length order → k * 27 + 27 ≤ length out₀ → out ≡ mapRows at own (take k order) ++ drop (k * 27) out₀
         → sets out (k * 27) (numbers a b r) ≡ mapRows at own (take (k + 1) order) ++ drop ((k + 1) * 27) out₀
     rows-more at own a b out₀ out ea eb l room q =
@@ -92,7 +92,7 @@ module _ (d t : List ℕ) (v : View) where
         ap (numbers a b) read
         ∙ row-numbers a b (mapAt d t v (getD order k 0))
         ∙ ap (λ (x : ℕ). mapRow x b (mapAt d t v (getD order k 0))) ea
-        ∙ ap (λ (x : ℕ). mapRow (at + length (each nameOf (take k order))) x (mapAt d t v (getD order k 0))) eb
+        ∙ ap (λ (x : ℕ). mapRow (at + length (each mapNameIn (take k order))) x (mapAt d t v (getD order k 0))) eb
         in
         ap (sets out (k * 27)) e
         ∙ ap (λ (x : List ℕ). sets x (k * 27) row) q

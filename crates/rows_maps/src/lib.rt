@@ -12,7 +12,7 @@ ghost use Rattle.records.specs.Readable.{Readable};
 ghost use Rattle.catalogue_numbers.specs.Fits.{MapFits};
 ghost use Rattle.catalogue_numbers.specs.Numbers.{mapAt};
 ghost use Rattle.rows_maps.specs.Rows.{Read, sevenWords, numbers, mapRows};
-ghost use Rattle.rows_maps.specs.Maps.{legacyAt, Within};
+ghost use Rattle.rows_maps.specs.Maps.{legacyAt, RecordWithin};
 use bytes_maps::own_length;
 use lists::zero64;
 use map_def::parse_data_map_section;
@@ -79,7 +79,7 @@ fn data_row(d: &[u8], t: &[u32], v: View, n: u32, i: u32) -> Row
 
 // The row of the map of symbol j.
 fn legacy_row(d: &[u8], t: &[u32], v: View, j: u32) -> Row
-    requires { ⌜ Readable (now d) (now t) v × Within (now d) (now t) v j ⌝ }
+    requires { ⌜ Readable (now d) (now t) v × RecordWithin (now d) (now t) v j ⌝ }
     ensures { λ r. ⌜ Read (legacyAt (now (d .entry)) (now (t .entry)) v j) r ⌝ }
 {
     let m = member_at(d, t, v, j);

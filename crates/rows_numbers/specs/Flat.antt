@@ -45,23 +45,23 @@ module _ (d t order : List ℕ) (made : Rows) where
 
   module _ (ns : List ℕ) where
     -- the numbers with the first k rows stored
-    unfoldable pub stored : ℕ → List ℕ
-    stored k = rows numbersAt k ++ drop (k * 7) ns
+    unfoldable pub numbersStored : ℕ → List ℕ
+    numbersStored k = rows numbersAt k ++ drop (k * 7) ns
 
-    pub stored-none : stored 0 ≡ ns
-    unfolding stored
+    pub stored-none : numbersStored 0 ≡ ns
+    unfolding numbersStored
     stored-none = rw (rows-none numbersAt)
 
     -- row m stored behind them, in xs
-    pub stored-next : (k : ℕ) (xs : List ℕ) (m : Made) → m ≡ madeAt d t order made k → xs ≡ stored k → k * 7 + 7 ≤ length ns
-        → sets xs (k * 7) (rowNumbers (m .row)) ≡ stored (k + 1)
-    unfolding stored
+    pub stored-next : (k : ℕ) (xs : List ℕ) (m : Made) → m ≡ madeAt d t order made k → xs ≡ numbersStored k → k * 7 + 7 ≤ length ns
+        → sets xs (k * 7) (rowNumbers (m .row)) ≡ numbersStored (k + 1)
+    unfolding numbersStored
     stored-next k xs m e f h = rw (e, f) (rows-sets numbersAt 7 k ns (λ i. refl) h)
 
     -- all rows are stored in xs, and what stands behind is lent as a part and comes back as zeros
-    pub stored-all : (k : ℕ) (xs ys : List ℕ) → k * 7 ≤ length ns → xs ≡ stored k → ys ≡ replicate (length (take (length xs - k * 7) (drop (k * 7) xs))) 0
+    pub stored-all : (k : ℕ) (xs ys : List ℕ) → k * 7 ≤ length ns → xs ≡ numbersStored k → ys ≡ replicate (length (take (length xs - k * 7) (drop (k * 7) xs))) 0
         → take (k * 7) xs ++ (ys ++ drop (length xs - k * 7) (drop (k * 7) xs)) ≡ filled 0 (length ns) (flatRows (rowsMade d t order 0 made k))
-    unfolding stored
+    unfolding numbersStored
     stored-all k xs ys h e q =
         let l : length (rows numbersAt k) ≡ k * 7 = length-rows numbersAt 7 k (λ i. refl) in
         tail-fill (k * 7) (rows numbersAt k) ns xs ys 0 l h e q ∙ rw (← l, rows-all k)

@@ -19,7 +19,7 @@ use Rattle.catalogue_laws.specs.Placed.{each-longer, rowAt, placed-sets}
 use Rattle.object.specs.View.{sectionFrom, symbolFrom}
 use Rattle.catalogue_numbers.specs.Numbers.{homeAt, programAt}
 use Rattle.program_section.specs.declared.Variant.{Variant}
-use Rattle.program_section.specs.Found.{variantIn}
+use Rattle.program_section.specs.Found.{variantShown}
 use Rattle.rows_programs.specs.declared.Row.{Row}
 
 unfoldable pub programRowOf : Program → Row
@@ -49,30 +49,30 @@ module _ (d t : List ℕ) (v : View) where
   abbrev pub programRows : ℕ → List ℕ → List ℕ
   programRows at js = joined (placed programName nothing programRow at 0 (map (programAt d t v) js))
 
-  abbrev pub nameOf : ℕ → List ℕ
-  nameOf j = programName (programAt d t v j)
+  abbrev pub programNameIn : ℕ → List ℕ
+  programNameIn j = programName (programAt d t v j)
 
   -- the row of a symbol, by its record and that of its section
   pub row-is : (j : ℕ) (y : SymbolRecord) (s : SectionRecord) (w : Variant) (r : Row) → y ≡ symbolAt d t v j → s ≡ sectionAt d t v (homeAt d t v j)
-      → w ≡ variantIn (nameIn d v (s .name))
+      → w ≡ variantShown (nameIn d v (s .name))
       → r ≡ record { length = y .name .length; number = w .number; first = w .first; second = w .second; section = s .index .0; address = y .address }
       → r ≡ programRowOf (programAt d t v j)
   unfolding programRowOf programOfSymbol sectionFrom symbolFrom
   row-is j y s w r ey es ew er = er ∙ rw (ew, es, ey, length-bytes)
 
   -- the row of the next number
-  module _ (order : List ℕ) (at k place : ℕ) (r : Row) (read : r ≡ programRowOf (programAt d t v (getD order k 0))) (before : place ≡ at + length (each nameOf (take k order))) where
+  module _ (order : List ℕ) (at k place : ℕ) (r : Row) (read : r ≡ programRowOf (programAt d t v (getD order k 0))) (before : place ≡ at + length (each programNameIn (take k order))) where
     -- where the name behind it lies
-    pub place-next : k < length order → place + r .length ≡ at + length (each nameOf (take (k + 1) order))
+    pub place-next : k < length order → place + r .length ≡ at + length (each programNameIn (take (k + 1) order))
     unfolding programRowOf
-    place-next l = let g : r .length ≡ length (nameOf (getD order k 0)) = rw read in omega (arith, each-longer nameOf order 0 k l)
+    place-next l = let g : r .length ≡ length (programNameIn (getD order k 0)) = rw read in omega (arith, each-longer programNameIn order 0 k l)
 
     -- one row more, in a table whose front are those of k programs
     pub rows-more : (out₀ out : List ℕ) → k < length order → k * 7 + 7 ≤ length out₀ → out ≡ programRows at (take k order) ++ drop (k * 7) out₀
         → sets out (k * 7) (numbers place r) ≡ programRows at (take (k + 1) order) ++ drop ((k + 1) * 7) out₀
     rows-more out₀ out l room q =
         let row : List ℕ = rowAt programName nothing programRow (programAt d t v) order at 0 k in
-        let a : ℕ = at + length (each nameOf (take k order)) in
+        let a : ℕ = at + length (each programNameIn (take k order)) in
         let b : ℕ = 0 + length (each {A = ℕ} nothing (take k order)) in
         let e : numbers place r ≡ row =
         ap (λ (x : ℕ). numbers x r) before ∙ ap (numbers a) read ∙ row-numbers a b (programAt d t v (getD order k 0))

@@ -31,7 +31,7 @@ numberOf (Owner.Section i) = i
 
 module _ (d t : List ℕ) (v : View) where
   -- r records have indexes below k, and no other
-  pub record First (k r : ℕ) : Type 0 where
+  pub record FirstNotBelow (k r : ℕ) : Type 0 where
     pub within : r ≤ v .sections
     pub below : (i : ℕ) → i < r → sectionAt d t v i .index .0 < k
     pub above : (i : ℕ) → r ≤ i → i < v .sections → k ≤ sectionAt d t v i .index .0
@@ -83,7 +83,7 @@ module _ (d t : List ℕ) (v : View) where
         let (l, e) = both-true (ltb r (v .sections)) (eqb (sectionAt d t v r .index .0) k) h in
         found-at (ltb-true r (v .sections) l) (eqb-true (sectionAt d t v r .index .0) k e)
 
-    pub not-found : First k r → hasIndex k r ≡ false → ownerOf (ownerIn k) ≡ Owner.Nothing
+    pub not-found : FirstNotBelow k r → hasIndex k r ≡ false → ownerOf (ownerIn k) ≡ Owner.Nothing
     not-found f h = rw (nobody k none-has)
       where
         n : r < v .sections → sectionAt d t v r .index .0 ≡ k → ⊥

@@ -4,7 +4,7 @@ ghost use mathlib.Core.Path.{_≡_};
 ghost use Prim.Native.Nat.{_-_};
 ghost use Rattle.records.specs.View.{sectionAt, symbolAt};
 ghost use Rattle.records.specs.Readable.{Readable};
-ghost use Rattle.symbol_section.specs.Owner.{First, hasIndex, ownerOf, ownerIn, homeOf, homeIn};
+ghost use Rattle.symbol_section.specs.Owner.{FirstNotBelow, hasIndex, ownerOf, ownerIn, homeOf, homeIn};
 use model::SectionIndex;
 use model::SectionRecord;
 use model::SymbolRecord;
@@ -42,7 +42,7 @@ fn has_index(d: &[u8], t: &[u32], v: View, i: u32, k: SectionIndex) -> bool
 // The first section record whose index is not below k, or how many there are.
 fn lower_bound(d: &[u8], t: &[u32], v: View, k: SectionIndex) -> u32
     requires { ⌜ Readable (now d) (now t) v ⌝ }
-    ensures { λ r. ⌜ First (now (d .entry)) (now (t .entry)) v (k .0) r ⌝ }
+    ensures { λ r. ⌜ FirstNotBelow (now (d .entry)) (now (t .entry)) v (k .0) r ⌝ }
 {
     let mut low: u32 = 0;
     let mut high: u32 = v.sections;

@@ -5,7 +5,7 @@ use native.Mathlib.Omega.{arith}
 use denote.Ref.{now}
 use Rattle.stream.specs.Stream.{place, byteAt}
 use Rattle.records.specs.View.{gapOf}
-use Rattle.bytes_code.specs.Code.{Found, found}
+use Rattle.bytes_code.specs.Code.{CodeFound, found}
 use borrow.Author.Needs.{needs}
 use Rattle.bytes_code.proofs.put_code.Statement.{statement}
 use Rattle.bytes_code.proofs.put_code.Tie as tie
@@ -26,7 +26,7 @@ data-place-requires c κs = search needs
 code-of : (c : tie.After-code-offset) →
     let a = c .before .before .before .before .before .before .before .args in
     let m = c .before .before .before .member-at .result in
-    Found (now (a .d)) (now (a .t)) (a .v) (a .j) (m .section) (c .code-offset .result) (m .symbol)
+    CodeFound (now (a .d)) (now (a .t)) (a .v) (a .j) (m .section) (c .code-offset .result) (m .symbol)
 unfolding byteAt
 code-of c =
     let m = c .before .before .before .member-at in

@@ -7,7 +7,7 @@ use denote.Ref.{now}
 use Rattle.model.specs.Bytes.{ascii}
 use Rattle.stream.specs.Stream.{place, byteAt, length-bytes}
 use Rattle.records.specs.Records.{namesAt}
-use Rattle.deposit_rules.specs.Rules.{nameAt}
+use Rattle.deposit_rules.specs.Rules.{streamName}
 use Rattle.deposit_rules.specs.Btf.{same-length, btf-number}
 use borrow.Author.Needs.{needs}
 use Rattle.deposit_rules.proofs.is_btf.Statement.{statement}
@@ -16,7 +16,7 @@ use Rattle.deposit_rules.proofs.is_btf.Tie as tie
 returns : tie.Need-returns
 returns c =
     let a = c .before .before .before .args in
-    let n : List ℕ = nameAt (now (a .d)) (a .h) (a .s .name) in
+    let n : List ℕ = streamName (now (a .d)) (a .h) (a .s .name) in
     sym (same-length (ascii ".BTF") n (λ q. let e : 4 ≡ a .s .name .length = q ∙ length-bytes (now (a .d)) 4 (namesAt (a .h) + a .s .name .at) (a .s .name .length) in omega (arith, c .if1 .taken)))
 
 names-at-requires : tie.Need-names-at-requires

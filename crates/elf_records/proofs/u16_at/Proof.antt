@@ -1,6 +1,6 @@
 -- `elf_records::u16_at` meets its contract.
 use borrow.Author.Tests.{eq-eqb, ne-eqb, le-leb, lt-leb}
-use Rattle.elf_records.specs.Elf.{numberAt}
+use Rattle.elf_records.specs.Elf.{fieldAt}
 use borrow.Author.Needs.{needs}
 use Rattle.elf_records.proofs.u16_at.Statement.{statement}
 use Rattle.elf_records.proofs.u16_at.Tie as tie
@@ -12,11 +12,11 @@ two-requires : tie.Need-two-requires
 two-requires c κs = search needs
 
 returns : tie.Need-returns
-unfolding numberAt
+unfolding fieldAt
 returns c = rw (le-leb _ _ (c .before .if1 .taken)) (c .two .ensures .0)
 
 returns-2 : tie.Need-returns-2
-unfolding numberAt
+unfolding fieldAt
 returns-2 c = rw (lt-leb _ _ (c .if1 .left))
 
 pub u16-at-spec : {M : Type 1} → statement M

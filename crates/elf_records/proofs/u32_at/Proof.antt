@@ -1,6 +1,6 @@
 -- `elf_records::u32_at` meets its contract.
 use borrow.Author.Tests.{eq-eqb, ne-eqb, le-leb, lt-leb}
-use Rattle.elf_records.specs.Elf.{numberAt}
+use Rattle.elf_records.specs.Elf.{fieldAt}
 use borrow.Author.Needs.{needs}
 use Rattle.elf_records.proofs.u32_at.Statement.{statement}
 use Rattle.elf_records.proofs.u32_at.Tie as tie
@@ -12,11 +12,11 @@ four-in-requires : tie.Need-four-in-requires
 four-in-requires c κs = search needs
 
 returns : tie.Need-returns
-unfolding numberAt
+unfolding fieldAt
 returns c = rw (le-leb _ _ (c .before .if1 .taken)) (c .four-in .ensures)
 
 returns-2 : tie.Need-returns-2
-unfolding numberAt
+unfolding fieldAt
 returns-2 c = rw (lt-leb _ _ (c .if1 .left))
 
 pub u32-at-spec : {M : Type 1} → statement M

@@ -1,6 +1,6 @@
 -- `elf_records::u64_at` meets its contract.
 use borrow.Author.Tests.{eq-eqb, ne-eqb, le-leb, lt-leb}
-use Rattle.elf_records.specs.Elf.{numberAt}
+use Rattle.elf_records.specs.Elf.{fieldAt}
 use borrow.Author.Needs.{needs}
 use Rattle.elf_records.proofs.u64_at.Statement.{statement}
 use Rattle.elf_records.proofs.u64_at.Tie as tie
@@ -12,11 +12,11 @@ eight-in-requires : tie.Need-eight-in-requires
 eight-in-requires c κs = search needs
 
 returns : tie.Need-returns
-unfolding numberAt
+unfolding fieldAt
 returns c = rw (le-leb _ _ (c .before .if1 .taken)) (c .eight-in .ensures)
 
 returns-2 : tie.Need-returns-2
-unfolding numberAt
+unfolding fieldAt
 returns-2 c = rw (lt-leb _ _ (c .if1 .left))
 
 pub u64-at-spec : {M : Type 1} → statement M

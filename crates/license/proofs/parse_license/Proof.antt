@@ -1,4 +1,4 @@
--- `license::parse_license` meets its contract: the run stands at byte k, and a zero before the last byte is one from k on (`front`).
+-- `license::parse_license` meets its contract: the run stands at byte k, and a zero before the last byte is one from k on (`zeroAmong`).
 use mathlib.Core.Path.{_≡_, sym, ap, _∙_}
 use mathlib.Core.Bool.{false}
 use Prim.Native.Nat.{ℕ, _≤_, _+_, _-_}
@@ -7,17 +7,7 @@ use lib.ListN.{getD}
 use Rattle.model.specs.LicenceVersion.{hasZero}
 use Rattle.stream.specs.Stream.{byteAt, bytesAt}
 use Rattle.stream.specs.Run.{runAt, run-byte, run-next, run-one}
-use Rattle.license.specs.Zeros.{
-  front,
-  front-start,
-  front-zero,
-  front-more,
-  front-end,
-  license-short,
-  license-zero,
-  license-closed,
-  license-open,
-}
+use Rattle.license.specs.Zeros.{zeroAmong, front-start, front-zero, front-more, front-end, license-short, license-zero, license-closed, license-open}
 use borrow.Author.Needs.{needs}
 use native.Mathlib.Omega.{arith}
 use Rattle.license.proofs.parse_license.Statement.{statement}
@@ -25,7 +15,7 @@ use Rattle.license.proofs.parse_license.Tie as tie
 
 abbrev Inv-loop : tie.InvT-loop
 Inv-loop d gap at n last run₀ k₀ run k =
-    (k ≤ n - 1) × (run ≡ runAt gap (at + k)) × (hasZero (bytesAt d gap at (n - 1)) ≡ front d gap at (n - 1) k)
+    (k ≤ n - 1) × (run ≡ runAt gap (at + k)) × (hasZero (bytesAt d gap at (n - 1)) ≡ zeroAmong d gap at (n - 1) k)
 
 abbrev μ-loop : tie.MeasureT-loop
 μ-loop d gap at n last run₀ k₀ run k = n - 1 - k

@@ -7,7 +7,7 @@ use denote.Ref.{now}
 use lib.ListN.{length}
 use Rattle.object.specs.Checked.{checkedOf}
 use Rattle.patch_symbols.specs.Search.{byName}
-use Rattle.patch_checks.specs.Entries.{Named, all-named}
+use Rattle.patch_checks.specs.Entries.{NamesFound, all-named}
 use Rattle.object.specs.View.{objectIn}
 use Rattle.bytes_layout.specs.Parts.{catalogue}
 use Rattle.load_image.specs.Tables.{all-maps, maps-are}
@@ -54,7 +54,7 @@ maps-by-section-requires c κs =
 
 -- as many bytes of a name as the longest one of the list has
 named : (c : tie.After-longest-name) (order : List ℕ)
-    → (let a = c .before .before .before .before .before .before .before .before .before .before .args in order ≡ byName (now (a .d)) (now (a .t)) (a .v) (c .longest-name .result) → Named (now (a .d)) (now (a .t)) (a .v) (now (a .entries)) order)
+    → (let a = c .before .before .before .before .before .before .before .before .before .before .args in order ≡ byName (now (a .d)) (now (a .t)) (a .v) (c .longest-name .result) → NamesFound (now (a .d)) (now (a .t)) (a .v) (now (a .entries)) order)
 named c order e =
     let a = c .before .before .before .before .before .before .before .before .before .before .args in
     all-named (now (a .d)) (now (a .t)) (a .v) (now (a .entries)) order (e ∙ ap (byName (now (a .d)) (now (a .t)) (a .v)) (c .longest-name .ensures))

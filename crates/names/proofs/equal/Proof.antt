@@ -1,17 +1,17 @@
--- `names::equal` meets its contract: the whole comparison is what is left of it at byte k (`rest`).
+-- `names::equal` meets its contract: the whole comparison is what is left of it at byte k (`wordRest`).
 use mathlib.Core.Path.{_≡_, refl, sym, _∙_}
 use Prim.Native.Nat.{_≤_, _-_}
 use denote.Ref.{now}
 use lib.ListN.{length}
 use Rattle.model.specs.Bytes.{same}
-use Rattle.names.specs.Words.{rest, rest-agrees, rest-differs, rest-end}
+use Rattle.names.specs.Words.{wordRest, rest-agrees, rest-differs, rest-end}
 use borrow.Author.Needs.{needs}
 use native.Mathlib.Omega.{arith}
 use Rattle.names.proofs.equal.Statement.{statement}
 use Rattle.names.proofs.equal.Tie as tie
 
 abbrev Inv-loop : tie.InvT-loop
-Inv-loop a word k₀ k = (k ≤ length word) × (same word a ≡ rest word a k)
+Inv-loop a word k₀ k = (k ≤ length word) × (same word a ≡ wordRest word a k)
 
 abbrev μ-loop : tie.MeasureT-loop
 μ-loop a word k₀ k = length word - k

@@ -1,4 +1,4 @@
--- `names::stands_apart` meets its contract: the run stands at byte k, and the whole comparison is what is left of it there (`rest`).
+-- `names::stands_apart` meets its contract: the run stands at byte k, and the whole comparison is what is left of it there (`wordRest`).
 use mathlib.Core.Path.{_≡_, refl, sym, _∙_}
 use Prim.Native.Nat.{_≤_, _+_, _-_}
 use denote.Ref.{now}
@@ -7,7 +7,7 @@ use Rattle.model.specs.Bytes.{same}
 use Rattle.stream.specs.Stream.{bytesAt, length-bytes}
 use Rattle.stream.specs.Laws.{getD-bytes}
 use Rattle.stream.specs.Run.{runAt, run-byte, run-next, run-one}
-use Rattle.names.specs.Words.{rest, rest-agrees, rest-differs, rest-end}
+use Rattle.names.specs.Words.{wordRest, rest-agrees, rest-differs, rest-end}
 use borrow.Author.Needs.{needs}
 use native.Mathlib.Omega.{arith}
 use Rattle.names.proofs.stands_apart.Statement.{statement}
@@ -15,7 +15,7 @@ use Rattle.names.proofs.stands_apart.Tie as tie
 
 abbrev Inv-loop : tie.InvT-loop
 Inv-loop d gap at word run₀ k₀ run k =
-    (k ≤ length word) × (run ≡ runAt gap (at + k)) × (same word (bytesAt d gap at (length word)) ≡ rest word (bytesAt d gap at (length word)) k)
+    (k ≤ length word) × (run ≡ runAt gap (at + k)) × (same word (bytesAt d gap at (length word)) ≡ wordRest word (bytesAt d gap at (length word)) k)
 
 abbrev μ-loop : tie.MeasureT-loop
 μ-loop d gap at word run₀ k₀ run k = length word - k

@@ -5,7 +5,7 @@ use denote.Ref.{now}
 use native.Mathlib.Omega.{arith}
 use borrow.Author.Needs.{needs}
 use lib.ListN.{length, length-set}
-use Rattle.parse_first.specs.Targets.{nextUntargeted, next-end, next-before, filled, filled-none, filled-before, filled-all}
+use Rattle.parse_first.specs.Targets.{nextUntargeted, next-end, next-before, filledFrom, filled-none, filled-before, filled-all}
 use Rattle.parse_first.proofs.next_untargeted.Statement.{statement}
 use Rattle.parse_first.proofs.next_untargeted.Tie as tie
 
@@ -14,7 +14,7 @@ Inv-loop d t v next₀ k₀ nearest₀ next k nearest =
     (k ≤ v .relocations)
     × (nearest ≡ nextUntargeted d t v k)
     × (length next ≡ length next₀)
-    × (next ≡ filled (nextUntargeted d t v) k (v .relocations) next₀)
+    × (next ≡ filledFrom (nextUntargeted d t v) k (v .relocations) next₀)
 
 abbrev μ-loop : tie.MeasureT-loop
 μ-loop d t v next₀ k₀ nearest₀ next k nearest = k
@@ -72,7 +72,7 @@ returns c =
     let f = nextUntargeted (now (a .d)) (now (a .t)) (a .v) in
     let e : l .loop .k ≡ 0 = omega arith in
     l .loop .inv .3
-    ∙ ap (λ (k : ℕ). filled f k (a .v .relocations) (now (a .next))) e
+    ∙ ap (λ (k : ℕ). filledFrom f k (a .v .relocations) (now (a .next))) e
     ∙ filled-all f (a .v .relocations) (now (a .next))
 
 pub next-untargeted-spec : {M : Type 1} → statement M

@@ -8,14 +8,14 @@ use lib.Seq.{slice}
 use Rattle.records.specs.declared.MapSource.{MapSource}
 use Rattle.records.specs.Maps.{mapNumberOf}
 use Rattle.catalogue_laws.specs.Groups.{map-start, map-in, LaidFrom, laid-none, laid-next}
-use Rattle.parse_maps.specs.Fault.{mapNumbers}
+use Rattle.parse_maps.specs.Fault.{symbolMapNumbers}
 use borrow.Author.Needs.{needs}
 use Rattle.parse_maps.proofs.map_numbers.Statement.{statement}
 use Rattle.parse_maps.proofs.map_numbers.Tie as tie
 
 abbrev Inv-loop : tie.InvT-loop
 Inv-loop sections order lo hi out₀ w n₀ i₀ out n i =
-    (lo ≤ i) × (i ≤ hi) × (n ≡ w + (i - lo)) × (length out ≡ length out₀) × LaidFrom w n (mapNumbers sections (slice lo i order)) out₀ out
+    (lo ≤ i) × (i ≤ hi) × (n ≡ w + (i - lo)) × (length out ≡ length out₀) × LaidFrom w n (symbolMapNumbers sections (slice lo i order)) out₀ out
 
 abbrev μ-loop : tie.MeasureT-loop
 μ-loop sections order lo hi out₀ w n₀ i₀ out n i = hi - i
@@ -76,7 +76,7 @@ returns c =
     let l = c .before in
     let a = l .before .before .before .args in
     let e : l .loop .i ≡ a .hi = omega arith in
-    let z : LaidFrom (a .w) (l .loop .n) (mapNumbers (a .sections) (slice (a .lo) (a .hi) (now (a .symbols)))) (now (a .out)) (l .loop .out) = rw (← e) (l .loop .inv .4) in
+    let z : LaidFrom (a .w) (l .loop .n) (symbolMapNumbers (a .sections) (slice (a .lo) (a .hi) (now (a .symbols)))) (now (a .out)) (l .loop .out) = rw (← e) (l .loop .inv .4) in
     (z .count, z .held)
 
 pub map-numbers-spec : {M : Type 1} → statement M

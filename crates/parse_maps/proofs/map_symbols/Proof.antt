@@ -12,13 +12,13 @@ use Rattle.catalogue_laws.specs.Groups.{first-next, first-found, first-end}
 use Rattle.catalogue_laws.specs.Numbers.{firstIn-map}
 use Rattle.object.specs.Checked.{checkedOf}
 use Rattle.object.specs.View.{sectionFrom, symbolIn}
-use Rattle.parse_maps.specs.Fault.{mapFault, refusalBy, refusalAt, refusal-fine, refusal-some}
+use Rattle.parse_maps.specs.Fault.{mapFault, mapRefusalBy, mapRefusalAt, refusal-fine, refusal-some}
 use borrow.Author.Needs.{needs}
 use Rattle.parse_maps.proofs.map_symbols.Statement.{statement}
 use Rattle.parse_maps.proofs.map_symbols.Tie as tie
 
 abbrev Inv-loop : tie.InvT-loop
-Inv-loop d t v s order lo hi i₀ i = (lo ≤ i) × (firstIn (refusalAt d t v s) (slice lo hi order) ≡ firstIn (refusalAt d t v s) (slice i hi order))
+Inv-loop d t v s order lo hi i₀ i = (lo ≤ i) × (firstIn (mapRefusalAt d t v s) (slice lo hi order) ≡ firstIn (mapRefusalAt d t v s) (slice i hi order))
 
 abbrev μ-loop : tie.MeasureT-loop
 μ-loop d t v s order lo hi i₀ i = hi - i
@@ -48,12 +48,12 @@ returns c =
     let l = f .before .before .before .before in
     let a = l .before .before .before .before .args in
     let d = now (a .d) in
-    let look = refusalAt d (now (a .t)) (a .v) (a .s) in
+    let look = mapRefusalAt d (now (a .t)) (a .v) (a .s) in
     let i = l .loop .i in
     let fault : f .map-fault .result ≡ mapFault d (a .v) (a .s) y = f .map-fault .ensures in
     let n : mapFault d (a .v) (a .s) y ≡ 0 → ⊥ = λ e. c .before .if1 .taken (fault ∙ e) in
     let at : look (getD (now (a .symbols)) i 0) ≡ some (record { number = f .map-fault .result; section = a .s .index; symbol = y .index; entry = 0 }) =
-    ap (refusalBy d (now (a .t)) (a .v) (a .s)) (sym (f .before .symbol .ensures))
+    ap (mapRefusalBy d (now (a .t)) (a .v) (a .s)) (sym (f .before .symbol .ensures))
     ∙ refusal-some d (now (a .t)) (a .v) (a .s) y n
     ∙ rw fault in
     c .of-symbol .ensures
@@ -76,10 +76,10 @@ loop-again c =
     let l = f .before .before .before .before in
     let a = l .before .before .before .before .args in
     let d = now (a .d) in
-    let look = refusalAt d (now (a .t)) (a .v) (a .s) in
+    let look = mapRefusalAt d (now (a .t)) (a .v) (a .s) in
     let i = l .loop .i in
     let none-at : look (getD (now (a .symbols)) i 0) ≡ none =
-    ap (refusalBy d (now (a .t)) (a .v) (a .s)) (sym (f .before .symbol .ensures))
+    ap (mapRefusalBy d (now (a .t)) (a .v) (a .s)) (sym (f .before .symbol .ensures))
     ∙ refusal-fine d (now (a .t)) (a .v) (a .s) y (sym (f .map-fault .ensures) ∙ c .if1 .left) in
     (omega arith, l .loop .inv .1 ∙ first-next look i (a .hi) (now (a .symbols)) (omega arith) (omega arith) none-at)
 
@@ -92,7 +92,7 @@ returns-2 c =
     (ap checkedOf
     (firstIn-map (mapSymbolRefusal (sectionFrom d (now (a .t)) (a .v) (a .s))) (symbolIn d (now (a .t)) (a .v)) (slice (a .lo) (a .hi) (now (a .symbols)))
     ∙ l .loop .inv .1
-    ∙ first-end (refusalAt d (now (a .t)) (a .v) (a .s)) (l .loop .i) (a .hi) (now (a .symbols)) (omega arith)))
+    ∙ first-end (mapRefusalAt d (now (a .t)) (a .v) (a .s)) (l .loop .i) (a .hi) (now (a .symbols)) (omega arith)))
 
 pub map-symbols-spec : {M : Type 1} → statement M
 map-symbols-spec =

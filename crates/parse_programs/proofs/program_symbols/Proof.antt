@@ -13,13 +13,13 @@ use Rattle.model.specs.Symbols.{isProgram}
 use Rattle.catalogue_laws.specs.Groups.{first-next, first-found, first-end, first-kept}
 use Rattle.object.specs.Checked.{checkedOf}
 use Rattle.object.specs.View.{sectionFrom, symbolIn}
-use Rattle.parse_programs.specs.Fault.{programFault, refusalBy, refusalAt, refusal-other, refusal-fine, refusal-some}
+use Rattle.parse_programs.specs.Fault.{programFault, programRefusalBy, programRefusalAt, refusal-other, refusal-fine, refusal-some}
 use borrow.Author.Needs.{needs}
 use Rattle.parse_programs.proofs.program_symbols.Statement.{statement}
 use Rattle.parse_programs.proofs.program_symbols.Tie as tie
 
 abbrev Inv-loop : tie.InvT-loop
-Inv-loop d t v s order lo hi i₀ i = (lo ≤ i) × (firstIn (refusalAt d t v s) (slice lo hi order) ≡ firstIn (refusalAt d t v s) (slice i hi order))
+Inv-loop d t v s order lo hi i₀ i = (lo ≤ i) × (firstIn (programRefusalAt d t v s) (slice lo hi order) ≡ firstIn (programRefusalAt d t v s) (slice i hi order))
 
 abbrev μ-loop : tie.MeasureT-loop
 μ-loop d t v s order lo hi i₀ i = hi - i
@@ -53,12 +53,12 @@ returns c =
     let l = p .before .before .before .before in
     let a = l .before .before .before .before .args in
     let d = now (a .d) in
-    let look = refusalAt d (now (a .t)) (a .v) (a .s) in
+    let look = programRefusalAt d (now (a .t)) (a .v) (a .s) in
     let i = l .loop .i in
     let fault : f .parse-program .result ≡ programFault (a .s) y = f .parse-program .ensures in
     let n : programFault (a .s) y ≡ 0 → ⊥ = λ e. c .before .if2 .taken (fault ∙ e) in
     let at : look (getD (now (a .symbols)) i 0) ≡ some (record { number = f .parse-program .result; section = a .s .index; symbol = y .index; entry = 0 }) =
-    ap (refusalBy d (now (a .t)) (a .v) (a .s)) (sym (p .before .symbol .ensures))
+    ap (programRefusalBy d (now (a .t)) (a .v) (a .s)) (sym (p .before .symbol .ensures))
     ∙ refusal-some d (now (a .t)) (a .v) (a .s) y (sym (p .is-program .ensures) ∙ f .before .if1 .taken) n
     ∙ rw fault in
     c .of-symbol .ensures
@@ -81,10 +81,10 @@ loop-again c =
     let l = p .before .before .before .before in
     let a = l .before .before .before .before .args in
     let d = now (a .d) in
-    let look = refusalAt d (now (a .t)) (a .v) (a .s) in
+    let look = programRefusalAt d (now (a .t)) (a .v) (a .s) in
     let i = l .loop .i in
     let none-at : look (getD (now (a .symbols)) i 0) ≡ none =
-    ap (refusalBy d (now (a .t)) (a .v) (a .s)) (sym (p .before .symbol .ensures))
+    ap (programRefusalBy d (now (a .t)) (a .v) (a .s)) (sym (p .before .symbol .ensures))
     ∙ ⊎-elim
     (λ w. refusal-fine d (now (a .t)) (a .v) (a .s) y (sym (w .1 .ensures) ∙ w .2 .left))
     (λ w. refusal-other d (now (a .t)) (a .v) (a .s) y (sym (p .is-program .ensures) ∙ w .left))
@@ -96,7 +96,7 @@ returns-2 c =
     let l = c .before in
     let a = l .before .before .before .before .args in
     let d = now (a .d) in
-    let look = refusalAt d (now (a .t)) (a .v) (a .s) in
+    let look = programRefusalAt d (now (a .t)) (a .v) (a .s) in
     sym
     (ap checkedOf
     (first-kept (programSymbolRefusal (sectionFrom d (now (a .t)) (a .v) (a .s))) (symbolIn d (now (a .t)) (a .v)) (λ j. isProgram (symbolIn d (now (a .t)) (a .v) j)) (slice (a .lo) (a .hi) (now (a .symbols)))

@@ -13,7 +13,7 @@ use Rattle.records.specs.View.{sectionAt}
 use Rattle.object.specs.View.{sectionFrom}
 use Rattle.parse_sections.specs.Candidates.{part-length, length-part-back}
 use Rattle.parse_sections.specs.Grouped.{GroupOf, all-symbols}
-use Rattle.parse_sections.specs.Pass.{Going, Ahead, going-start, going-end, going-past, going-refused, going-ahead, going-room, going-next}
+use Rattle.parse_sections.specs.Pass.{Going, SectionAhead, going-start, going-end, going-past, going-refused, going-ahead, going-room, going-next}
 use Rattle.parse_sections.proofs.parse_sections.Statement.{statement}
 use Rattle.parse_sections.proofs.parse_sections.Tie as tie
 
@@ -254,7 +254,7 @@ ahead : (c : tie.After-m Inv-loop μ-loop) →
     let f = p .before .before .before .before in
     let l = f .before .before .before .before .before .before .before in
     let a = l .before .before .before .before .before .before .before .before .before .before .before .args in
-    Ahead (now (a .d)) (now (a .t)) (a .v) (now (a .symbols)) (p .parse-section .last .1 .1 .1 .1 .1 .1 .1 .1 .1 .1 .1 .0 ++ drop (f .group-of .result .hi - 0) (l .loop .functions)) (f .before .before .before .before .i .given .0 .0) (f .group-of .result .hi) (l .loop .n .functions) (c .m .given .0 .0)
+    SectionAhead (now (a .d)) (now (a .t)) (a .v) (now (a .symbols)) (p .parse-section .last .1 .1 .1 .1 .1 .1 .1 .1 .1 .1 .1 .0 ++ drop (f .group-of .result .hi - 0) (l .loop .functions)) (f .before .before .before .before .i .given .0 .0) (f .group-of .result .hi) (l .loop .n .functions) (c .m .given .0 .0)
 ahead c =
     let p = c .before .before .before .before .before .before .before .before in
     let f = p .before .before .before .before in

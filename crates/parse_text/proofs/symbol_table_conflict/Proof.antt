@@ -1,4 +1,4 @@
--- `parse_text::symbol_table_conflict` meets its contract: what the pass answers in the end is fixed by what it holds and by what is before it (`answer`).
+-- `parse_text::symbol_table_conflict` meets its contract: what the pass answers in the end is fixed by what it holds and by what is before it (`conflictAnswer`).
 use mathlib.Core.Path.{_≡_, _∙_, sym}
 use Prim.Native.Nat.{_≤_, _-_}
 use native.Mathlib.Omega.{arith}
@@ -6,14 +6,14 @@ use denote.Ref.{now}
 use lib.ListN.{getD}
 use Rattle.catalogue_laws.specs.Shared.{leastAgain}
 use Rattle.parse_text.specs.Group.{addressIn, textGroup, group-end}
-use Rattle.parse_text.specs.Again.{conflictOf, againNext, answer, answer-first, answer-next, answer-end}
+use Rattle.parse_text.specs.Again.{conflictOf, againNext, conflictAnswer, answer-first, answer-next, answer-end}
 use borrow.Author.Needs.{needs}
 use Rattle.parse_text.proofs.symbol_table_conflict.Statement.{statement}
 use Rattle.parse_text.proofs.symbol_table_conflict.Tie as tie
 
 abbrev Inv-loop : tie.InvT-loop
 Inv-loop d t v order lo hi a₀ k₀ a k =
-    (k ≤ hi) × (conflictOf (leastAgain (addressIn d t v) (textGroup d t v order lo hi)) ≡ answer (addressIn d t v) a (textGroup d t v order k hi))
+    (k ≤ hi) × (conflictOf (leastAgain (addressIn d t v) (textGroup d t v order lo hi)) ≡ conflictAnswer (addressIn d t v) a (textGroup d t v order k hi))
 
 abbrev μ-loop : tie.MeasureT-loop
 μ-loop d t v order lo hi a₀ k₀ a k = hi - k

@@ -10,7 +10,7 @@ use lib.ListN.{length, getD}
 use Rattle.model.specs.Symbols.{top}
 use Rattle.object.specs.View.{definedRecord}
 use Rattle.parse_text.specs.declared.ParsedText.{ParsedText}
-use Rattle.parse_text.specs.Search.{Stands, search-end, search-other, search-below, search-met, search-past, search-lost}
+use Rattle.parse_text.specs.Search.{SearchStands, search-end, search-other, search-below, search-met, search-past, search-lost}
 use Rattle.parse_text.specs.Parsed.{invalidSymbol, unknownSymbol, numberFrom, number-passed, number-found, checked-fine, checked-refused, Walked}
 use Rattle.parse_text.specs.Walking.{Walking, valid-size, walking-start, walked-end, walked-unknown, walked-invalid, walking-next}
 use borrow.Author.Needs.{needs}
@@ -19,7 +19,7 @@ use Rattle.parse_text.proofs.walk.Tie as tie
 
 abbrev Inv-loop2 : tie.InvT-loop2
 Inv-loop2 d t v s order lo hi out w len start offset k₀ n address k =
-    (k₀ ≤ k) × (k ≤ hi) × Stands d t v s order k hi address
+    (k₀ ≤ k) × (k ≤ hi) × SearchStands d t v s order k hi address
 
 abbrev μ-loop2 : tie.MeasureT-loop2
 μ-loop2 d t v s order lo hi out w len start offset k₀ n address k = hi - k

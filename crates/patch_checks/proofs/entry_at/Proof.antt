@@ -1,5 +1,5 @@
 -- `patch_checks::entry_at` meets its contract: five numbers, and whether all are there.
-use Rattle.patch_checks.specs.Entries.{entryAt}
+use Rattle.patch_checks.specs.Entries.{patchEntryAt}
 use borrow.Author.Needs.{needs}
 use Rattle.patch_checks.proofs.entry_at.Statement.{statement}
 use Rattle.patch_checks.proofs.entry_at.Tie as tie
@@ -38,7 +38,7 @@ number-requires-5 : tie.Need-number-requires-5
 number-requires-5 c κs = search needs
 
 returns : tie.Need-returns
-unfolding entryAt
+unfolding patchEntryAt
 returns c = cc
 
 pub entry-at-spec : {M : Type 1} → statement M

@@ -13,7 +13,7 @@ use Rattle.model.specs.Refusals.{entryRefusal}
 use Rattle.object.specs.Checked.{checkedOf}
 use Rattle.object.specs.View.{objectIn}
 use Rattle.patch_checks.specs.Entries.{patchBy, lent-ranges, bytes-length}
-use Rattle.patch_checks.specs.Checks.{mapsOf, faultOf, not-inside, other-mark, by-bearer}
+use Rattle.patch_checks.specs.Checks.{mapsOfNumbers, entryFault, not-inside, other-mark, by-bearer}
 use borrow.Author.Needs.{needs}
 use Rattle.patch_checks.proofs.entry_refusal.Statement.{statement}
 use Rattle.patch_checks.proofs.entry_refusal.Tie as tie
@@ -28,7 +28,7 @@ returns : tie.Need-returns
 returns c =
     let a = c .before .before .before .before .before .before .before .before .before .args in
     c .of-entry .ensures
-    ∙ ap checkedOf (sym (not-inside (now (a .d)) (now (a .t)) (a .v) (mapsOf (now (a .d)) (now (a .t)) (a .v) (now (a .maps)) (a .n)) (a .e) (patchBy (now (a .patches)) (a .x)) (sym (c .before .before .is-lent .ensures) ∙ not-true _ (c .before .if1 .taken))))
+    ∙ ap checkedOf (sym (not-inside (now (a .d)) (now (a .t)) (a .v) (mapsOfNumbers (now (a .d)) (now (a .t)) (a .v) (now (a .maps)) (a .n)) (a .e) (patchBy (now (a .patches)) (a .x)) (sym (c .before .before .is-lent .ensures) ∙ not-true _ (c .before .if1 .taken))))
 
 of-entry-requires-2 : tie.Need-of-entry-requires-2
 of-entry-requires-2 c κs = search needs
@@ -38,7 +38,7 @@ unfolding patchBy
 returns-2 c =
     let a = c .before .before .before .before .before .before .before .before .before .before .before .args in
     c .of-entry2 .ensures
-    ∙ ap checkedOf (sym (other-mark (now (a .d)) (now (a .t)) (a .v) (mapsOf (now (a .d)) (now (a .t)) (a .v) (now (a .maps)) (a .n)) (a .e) (patchBy (now (a .patches)) (a .x)) (omega arith)))
+    ∙ ap checkedOf (sym (other-mark (now (a .d)) (now (a .t)) (a .v) (mapsOfNumbers (now (a .d)) (now (a .t)) (a .v) (now (a .maps)) (a .n)) (a .e) (patchBy (now (a .patches)) (a .x)) (omega arith)))
 
 lent : (c : tie.Else1) → patchBy (now (c .before .before .before .before .before .before .before .before .args .patches)) (c .before .before .before .before .before .before .before .before .args .x) .inside ≡ true
 lent c = sym (c .before .is-lent .ensures) ∙ not-false _ (c .if1 .left)
@@ -86,13 +86,13 @@ of-entry-requires-4 c κs = search needs
 
 told : (c : tie.After-bearer-of)
     → (let a = c .before .before .before .before .before .before .before .before .before .before .before .before .args in
-    let ms = mapsOf (now (a .d)) (now (a .t)) (a .v) (now (a .maps)) (a .n) in
-    entryRefusal (objectIn (now (a .d)) (now (a .t)) (a .v)) ms (a .e) (patchBy (now (a .patches)) (a .x)) ≡ faultOf (now (a .d)) (now (a .t)) (a .v) ms (a .e) (a .x .bytes .length) (a .x .mark) (c .bearer-of .result))
+    let ms = mapsOfNumbers (now (a .d)) (now (a .t)) (a .v) (now (a .maps)) (a .n) in
+    entryRefusal (objectIn (now (a .d)) (now (a .t)) (a .v)) ms (a .e) (patchBy (now (a .patches)) (a .x)) ≡ entryFault (now (a .d)) (now (a .t)) (a .v) ms (a .e) (a .x .bytes .length) (a .x .mark) (c .bearer-of .result))
 unfolding patchBy
 told c =
     let a = c .before .before .before .before .before .before .before .before .before .before .before .before .args in
     let e : a .x .name .at + a .x .name .length - a .x .name .at ≡ a .x .name .length = omega arith in
-    by-bearer (now (a .d)) (now (a .t)) (a .v) (mapsOf (now (a .d)) (now (a .t)) (a .v) (now (a .maps)) (a .n)) (a .e) (patchBy (now (a .patches)) (a .x)) (lent (c .before .before .before .before)) (omega arith)
+    by-bearer (now (a .d)) (now (a .t)) (a .v) (mapsOfNumbers (now (a .d)) (now (a .t)) (a .v) (now (a .maps)) (a .n)) (a .e) (patchBy (now (a .patches)) (a .x)) (lent (c .before .before .before .before)) (omega arith)
     (c .bearer-of .result) (c .bearer-of .ensures ∙ rw e)
     ∙ rw (bytes-length (now (a .patches)) (a .x) (lent (c .before .before .before .before)))
 

@@ -5,16 +5,16 @@ use native.Mathlib.Numerals.{add-one}
 use native.Mathlib.Omega.{arith}
 use denote.Ref.{now}
 use Rattle.patch_checks.specs.declared.Entry.{Entry}
-use Rattle.patch_checks.specs.Entries.{countOf, longer, longest}
+use Rattle.patch_checks.specs.Entries.{entryCount, longer, longest}
 use borrow.Author.Needs.{needs}
 use Rattle.patch_checks.proofs.longest_name.Statement.{statement}
 use Rattle.patch_checks.proofs.longest_name.Tie as tie
 
 abbrev Inv-loop : tie.InvT-loop
-Inv-loop entries e₀ bytes₀ e bytes = (e ≤ countOf entries) × (bytes ≡ longest entries e)
+Inv-loop entries e₀ bytes₀ e bytes = (e ≤ entryCount entries) × (bytes ≡ longest entries e)
 
 abbrev μ-loop : tie.MeasureT-loop
-μ-loop entries e₀ bytes₀ e bytes = countOf entries - e
+μ-loop entries e₀ bytes₀ e bytes = entryCount entries - e
 
 loop-holds : tie.Need-loop-holds Inv-loop μ-loop
 unfolding longest
@@ -48,7 +48,7 @@ returns : tie.Need-returns Inv-loop μ-loop
 returns c =
     let l = c .before .loop in
     let entries = now (c .before .before .before .args .entries) in
-    let e : l .e ≡ countOf entries = omega arith in
+    let e : l .e ≡ entryCount entries = omega arith in
     l .inv .1 ∙ ap (longest entries) e
 
 pub longest-name-spec : {M : Type 1} → statement M

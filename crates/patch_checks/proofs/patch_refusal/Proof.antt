@@ -8,14 +8,14 @@ use Rattle.object.specs.Checked.{checkedOf}
 use Rattle.object.specs.View.{objectIn}
 use Rattle.patch_checks.specs.declared.Entry.{Entry}
 use Rattle.patch_checks.specs.Entries.{patchBy, patchAt}
-use Rattle.patch_checks.specs.Checks.{mapsOf, restAt, rest-all, rest-refused, rest-next, rest-end}
+use Rattle.patch_checks.specs.Checks.{mapsOfNumbers, restAt, rest-all, rest-refused, rest-next, rest-end}
 use borrow.Author.Needs.{needs}
 use Rattle.patch_checks.proofs.patch_refusal.Statement.{statement}
 use Rattle.patch_checks.proofs.patch_refusal.Tie as tie
 
 abbrev Inv-loop : tie.InvT-loop
 Inv-loop d t v entries patches order maps n by count e₀ e =
-    (e ≤ count) × (restAt (objectIn d t v) (mapsOf d t v maps n) entries patches 0 ≡ restAt (objectIn d t v) (mapsOf d t v maps n) entries patches e)
+    (e ≤ count) × (restAt (objectIn d t v) (mapsOfNumbers d t v maps n) entries patches 0 ≡ restAt (objectIn d t v) (mapsOfNumbers d t v maps n) entries patches e)
 
 abbrev μ-loop : tie.MeasureT-loop
 μ-loop d t v entries patches order maps n by count e₀ e = count - e
@@ -42,18 +42,18 @@ enum-known-r c = search needs
 
 answer : (c : tie.After-entry-refusal Inv-loop μ-loop)
     → (let a = c .before .before .before .before .before .before .before .before .before .before .before .args in
-    c .entry-refusal .result ≡ checkedOf (entryRefusal (objectIn (now (a .d)) (now (a .t)) (a .v)) (mapsOf (now (a .d)) (now (a .t)) (a .v) (now (a .maps)) (a .n)) (c .before .before .before .loop .e + 1) (patchAt (now (a .entries)) (now (a .patches)) (c .before .before .before .loop .e))))
+    c .entry-refusal .result ≡ checkedOf (entryRefusal (objectIn (now (a .d)) (now (a .t)) (a .v)) (mapsOfNumbers (now (a .d)) (now (a .t)) (a .v) (now (a .maps)) (a .n)) (c .before .before .before .loop .e + 1) (patchAt (now (a .entries)) (now (a .patches)) (c .before .before .before .loop .e))))
 answer c =
     let a = c .before .before .before .before .before .before .before .before .before .before .before .args in
     c .entry-refusal .ensures
-    ∙ ap (λ (x : Entry). checkedOf (entryRefusal (objectIn (now (a .d)) (now (a .t)) (a .v)) (mapsOf (now (a .d)) (now (a .t)) (a .v) (now (a .maps)) (a .n)) (c .before .before .before .loop .e + 1) (patchBy (now (a .patches)) x)))
+    ∙ ap (λ (x : Entry). checkedOf (entryRefusal (objectIn (now (a .d)) (now (a .t)) (a .v)) (mapsOfNumbers (now (a .d)) (now (a .t)) (a .v) (now (a .maps)) (a .n)) (c .before .before .before .loop .e + 1) (patchBy (now (a .patches)) x)))
     (c .before .entry-at .ensures)
 
 returns : tie.Need-returns Inv-loop μ-loop
 returns c =
     let a = c .before .before .before .before .before .before .before .before .before .before .before .before .before .before .args in
     let o = objectIn (now (a .d)) (now (a .t)) (a .v) in
-    let ms = mapsOf (now (a .d)) (now (a .t)) (a .v) (now (a .maps)) (a .n) in
+    let ms = mapsOfNumbers (now (a .d)) (now (a .t)) (a .v) (now (a .maps)) (a .n) in
     let l = c .before .before .before .before .before .before .loop in
     let w = c .before .before .before .entry-refusal .result in
     let told = c .before .r .given .1 in
@@ -76,7 +76,7 @@ loop-again : tie.Need-loop-again Inv-loop μ-loop
 loop-again c =
     let a = c .before .before .before .before .before .before .before .before .before .before .before .before .before .args in
     let o = objectIn (now (a .d)) (now (a .t)) (a .v) in
-    let ms = mapsOf (now (a .d)) (now (a .t)) (a .v) (now (a .maps)) (a .n) in
+    let ms = mapsOfNumbers (now (a .d)) (now (a .t)) (a .v) (now (a .maps)) (a .n) in
     let l = c .before .before .before .before .before .loop in
     (omega arith, l .inv .1 ∙ rest-next o ms (now (a .entries)) (now (a .patches)) (l .e) (omega arith) (c .before .before .entry-refusal .result) (answer (c .before .before)) (c .enum-told .given .1) .1)
 
@@ -84,7 +84,7 @@ returns-2 : tie.Need-returns-2 Inv-loop μ-loop
 returns-2 c =
     let a = c .before .before .before .before .before .before .before .before .before .args in
     let o = objectIn (now (a .d)) (now (a .t)) (a .v) in
-    let ms = mapsOf (now (a .d)) (now (a .t)) (a .v) (now (a .maps)) (a .n) in
+    let ms = mapsOfNumbers (now (a .d)) (now (a .t)) (a .v) (now (a .maps)) (a .n) in
     let l = c .before .loop in
     sym (ap checkedOf (rest-all o ms (now (a .entries)) (now (a .patches)) ∙ l .inv .1 ∙ rest-end o ms (now (a .entries)) (now (a .patches)) (l .e) (omega arith)))
 

@@ -6,7 +6,7 @@ use native.Mathlib.Omega.{arith}
 use Rattle.model.specs.Refusals.{ofEntry, placeRefusal}
 use Rattle.object.specs.Checked.{checkedOf}
 use Rattle.object.specs.View.{symbolFrom}
-use Rattle.patch_checks.specs.Checks.{mapsOf, place-room, refused-22, place-below, by-own}
+use Rattle.patch_checks.specs.Checks.{mapsOfNumbers, place-room, refused-22, place-below, by-own}
 use borrow.Author.Needs.{needs}
 use Rattle.patch_checks.proofs.place_refusal.Statement.{statement}
 use Rattle.patch_checks.proofs.place_refusal.Tie as tie
@@ -51,7 +51,7 @@ of-entry-requires-2 c κs = search needs
 
 told : (c : tie.After-passes)
     → (let a = c .before .before .before .before .before .before .before .before .before .args in
-    placeRefusal (mapsOf (now (a .d)) (now (a .t)) (a .v) (now (a .maps)) (a .n)) (a .e) (symbolFrom (now (a .d)) (now (a .t)) (a .v) (a .y)) ≡ ofEntry 23 (a .e) (c .passes .result))
+    placeRefusal (mapsOfNumbers (now (a .d)) (now (a .t)) (a .v) (now (a .maps)) (a .n)) (a .e) (symbolFrom (now (a .d)) (now (a .t)) (a .v) (a .y)) ≡ ofEntry 23 (a .e) (c .passes .result))
 told c =
     let s = c .before .before .before .before .before .before .before .before .before in
     let a = s .args in

@@ -13,7 +13,7 @@ use Rattle.catalogue_numbers.specs.Numbers.{mapNumbers}
 use Rattle.patch_symbols.specs.Bearers.{bearerOf, bearersIn}
 use Rattle.patch_checks.specs.declared.Entry.{Entry}
 use Rattle.patch_checks.specs.Entries.{patchBy, patchAt, lent-ranges}
-use Rattle.patch_checks.specs.Checks.{mapsOf, place-room, rest-none}
+use Rattle.patch_checks.specs.Checks.{mapsOfNumbers, place-room, rest-none}
 use Rattle.patch_data.specs.Acts.{inside-ok, not-several, after-nobody, after-reached, after-one}
 use Rattle.patch_data.specs.Ready.{mapCount, alone}
 use borrow.Author.Needs.{needs}
@@ -22,11 +22,11 @@ use Rattle.patch_data.proofs.patch_entry.Tie as tie
 
 accepted : (s : tie.Start)
     → (let a = s .args in
-    entryRefusal (objectIn (now (a .d)) (now (a .t)) (a .v)) (mapsOf (now (a .d)) (now (a .t)) (a .v) (mapNumbers (now (a .d)) (now (a .t)) (a .v)) (mapCount (now (a .d)) (now (a .t)) (a .v))) (a .e + 1)
+    entryRefusal (objectIn (now (a .d)) (now (a .t)) (a .v)) (mapsOfNumbers (now (a .d)) (now (a .t)) (a .v) (mapNumbers (now (a .d)) (now (a .t)) (a .v)) (mapCount (now (a .d)) (now (a .t)) (a .v))) (a .e + 1)
     (patchAt (now (a .entries)) (now (a .patches)) (a .e)) ≡ none)
 accepted s =
     let a = s .args in
-    rest-none (objectIn (now (a .d)) (now (a .t)) (a .v)) (mapsOf (now (a .d)) (now (a .t)) (a .v) (mapNumbers (now (a .d)) (now (a .t)) (a .v)) (mapCount (now (a .d)) (now (a .t)) (a .v)))
+    rest-none (objectIn (now (a .d)) (now (a .t)) (a .v)) (mapsOfNumbers (now (a .d)) (now (a .t)) (a .v) (mapNumbers (now (a .d)) (now (a .t)) (a .v)) (mapCount (now (a .d)) (now (a .t)) (a .v)))
     (now (a .entries)) (now (a .patches)) (a .e) (s .pre .1) (s .pre .2) .0
 
 ranges : (c : tie.After-entry-at)
@@ -36,7 +36,7 @@ ranges : (c : tie.After-entry-at)
 ranges c =
     let s = c .before .before .before .before .before .before .before .before .before in
     let a = s .args in
-    let ms = mapsOf (now (a .d)) (now (a .t)) (a .v) (mapNumbers (now (a .d)) (now (a .t)) (a .v)) (mapCount (now (a .d)) (now (a .t)) (a .v)) in
+    let ms = mapsOfNumbers (now (a .d)) (now (a .t)) (a .v) (mapNumbers (now (a .d)) (now (a .t)) (a .v)) (mapCount (now (a .d)) (now (a .t)) (a .v)) in
     lent-ranges (now (a .patches)) (c .entry-at .result)
     (ap (λ (x : Entry). patchBy (now (a .patches)) x .inside) (c .entry-at .ensures)
     ∙ inside-ok (now (a .d)) (now (a .t)) (a .v) ms (a .e + 1) (patchAt (now (a .entries)) (now (a .patches)) (a .e)) (accepted s))
@@ -135,7 +135,7 @@ returns-3 : tie.Need-returns-3
 returns-3 c =
     let s = c .before .before .before .before .before .before .before .before .before .before .before .before .before in
     let a = s .args in
-    let ms = mapsOf (now (a .d)) (now (a .t)) (a .v) (mapNumbers (now (a .d)) (now (a .t)) (a .v)) (mapCount (now (a .d)) (now (a .t)) (a .v)) in
+    let ms = mapsOfNumbers (now (a .d)) (now (a .t)) (a .v) (mapNumbers (now (a .d)) (now (a .t)) (a .v)) (mapCount (now (a .d)) (now (a .t)) (a .v)) in
     absurd (not-several (now (a .d)) (now (a .t)) (a .v) ms (a .e + 1) (patchAt (now (a .entries)) (now (a .patches)) (a .e)) (accepted s) (sym (c .enum-told2 .given .1) ∙ bearer (c .before .before)))
 
 pub patch-entry-spec : {M : Type 1} → statement M

@@ -6,8 +6,8 @@ use native.Mathlib.Omega.{arith}
 use lib.ListN.{length}
 use Rattle.object.specs.View.{objectIn}
 use Rattle.catalogue_numbers.specs.Numbers.{mapNumbers}
-use Rattle.patch_checks.specs.Entries.{countOf}
-use Rattle.patch_checks.specs.Checks.{mapsOf, rest-none}
+use Rattle.patch_checks.specs.Entries.{entryCount}
+use Rattle.patch_checks.specs.Checks.{mapsOfNumbers, rest-none}
 use Rattle.patch_data.specs.Acts.{after-length}
 use Rattle.patch_data.specs.Ready.{mapCount, ownAt, checksAt, starts, ends, checks-all}
 use borrow.Author.Needs.{needs}
@@ -16,10 +16,10 @@ use Rattle.patch_data.proofs.patch_own.Tie as tie
 
 abbrev Inv-loop : tie.InvT-loop
 Inv-loop d t v entries patches order by rows own bytes₀ count e₀ bytes e =
-    (e ≤ countOf entries) × (length bytes ≡ length bytes₀) × checksAt d t v entries patches e × (bytes ≡ ownAt d t v entries patches e)
+    (e ≤ entryCount entries) × (length bytes ≡ length bytes₀) × checksAt d t v entries patches e × (bytes ≡ ownAt d t v entries patches e)
 
 abbrev μ-loop : tie.MeasureT-loop
-μ-loop d t v entries patches order by rows own bytes₀ count e₀ bytes e = countOf entries - e
+μ-loop d t v entries patches order by rows own bytes₀ count e₀ bytes e = entryCount entries - e
 
 add-count : tie.Need-add-count Inv-loop μ-loop
 add-count c = search needs
@@ -51,7 +51,7 @@ loop-again c =
     let o = objectIn (now (a .d)) (now (a .t)) (a .v) in
     let ns = mapNumbers (now (a .d)) (now (a .t)) (a .v) in
     let n = mapCount (now (a .d)) (now (a .t)) (a .v) in
-    let ms = mapsOf (now (a .d)) (now (a .t)) (a .v) ns n in (
+    let ms = mapsOfNumbers (now (a .d)) (now (a .t)) (a .v) ns n in (
       omega arith,
       ap length (c .before .before .patch-entry .ensures)
           ∙ after-length (now (a .d)) (now (a .t)) (a .v) (now (a .entries)) (now (a .patches)) ns n (l .e + 1)
@@ -69,7 +69,7 @@ returns c =
     let s = c .before .before .before .before .before .before .before .before .before .before in
     let a = s .args in
     let l = c .before .loop in
-    let e : l .e ≡ countOf (now (a .entries)) = omega arith in
+    let e : l .e ≡ entryCount (now (a .entries)) = omega arith in
     l .inv .3 ∙ ap (ownAt (now (a .d)) (now (a .t)) (a .v) (now (a .entries)) (now (a .patches))) e ∙ ends (now (a .d)) (now (a .t)) (a .v) (s .pre .0 .sited .readable) (now (a .entries)) (now (a .patches))
 
 pub patch-own-spec : {M : Type 1} → statement M

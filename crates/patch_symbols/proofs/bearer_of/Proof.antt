@@ -4,7 +4,7 @@ use mathlib.Core.Path.{sym, _∙_}
 use native.Mathlib.Omega.{arith}
 use borrow.Author.Tests.{not-true, not-false}
 use Rattle.patch_symbols.specs.Long.{too-long}
-use Rattle.patch_symbols.specs.Search.{nameOf, lengthFirst, nobody-bears, one-bears, several-bear, stands-there}
+use Rattle.patch_symbols.specs.Search.{lengthAndName, lengthFirst, nobody-bears, one-bears, several-bear, stands-there}
 use borrow.Author.Needs.{needs}
 use Rattle.patch_symbols.proofs.bearer_of.Statement.{statement}
 use Rattle.patch_symbols.proofs.bearer_of.Tie as tie
@@ -49,7 +49,7 @@ shared-slice-read-t12 : tie.Need-shared-slice-read-t12
 shared-slice-read-t12 c =
     let a = c .before .before .before .before .before .before .before .before .before .before .before .args in
     let b = c .before .before .before .before in
-    stands-there (nameOf (now (a .d)) (now (a .t)) (a .v)) (lengthFirst (now (a .word))) (now (a .symbols)) (b .before .lower-bound .result) (sym (b .bears-at .ensures) ∙ not-false _ (c .before .before .before .if2 .left))
+    stands-there (lengthAndName (now (a .d)) (now (a .t)) (a .v)) (lengthFirst (now (a .word))) (now (a .symbols)) (b .before .lower-bound .result) (sym (b .bears-at .ensures) ∙ not-false _ (c .before .before .before .if2 .left))
 
 returns-4 : tie.Need-returns-4
 returns-4 c =

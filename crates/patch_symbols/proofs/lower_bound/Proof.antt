@@ -7,15 +7,15 @@ use native.Mathlib.Nat.{not-suc-le-zero}
 use native.Mathlib.Omega.{arith}
 use lib.ListN.{length}
 use Rattle.model.specs.Bytes.{before}
-use Rattle.patch_symbols.specs.Search.{nameOf, lengthFirst, keyAt, names-below, names-above}
+use Rattle.patch_symbols.specs.Search.{lengthAndName, lengthFirst, keyAt, names-below, names-above}
 use borrow.Author.Needs.{needs}
 use Rattle.patch_symbols.proofs.lower_bound.Statement.{statement}
 use Rattle.patch_symbols.proofs.lower_bound.Tie as tie
 
 abbrev Inv-loop : tie.InvT-loop
 Inv-loop d t v order word low₀ high₀ low high =
-    (low ≤ high) × (high ≤ length order) × ((i : ℕ) → i < low → before (keyAt (nameOf d t v) (lengthFirst word) order i) (lengthFirst word) ≡ true)
-    × ((i : ℕ) → high ≤ i → i < length order → before (keyAt (nameOf d t v) (lengthFirst word) order i) (lengthFirst word) ≡ false)
+    (low ≤ high) × (high ≤ length order) × ((i : ℕ) → i < low → before (keyAt (lengthAndName d t v) (lengthFirst word) order i) (lengthFirst word) ≡ true)
+    × ((i : ℕ) → high ≤ i → i < length order → before (keyAt (lengthAndName d t v) (lengthFirst word) order i) (lengthFirst word) ≡ false)
 
 abbrev μ-loop : tie.MeasureT-loop
 μ-loop d t v order word low₀ high₀ low high = high - low

@@ -2,15 +2,15 @@
 use mathlib.Core.Path.{_≡_, ap}
 use Prim.Native.Nat.{min}
 use native.Mathlib.Omega.{arith}
-use Rattle.rows_functions.specs.Search.{left}
+use Rattle.rows_functions.specs.Search.{rowsLeft}
 use Rattle.rows_functions.proofs.begin.Statement.{statement}
 use Rattle.rows_functions.proofs.begin.Tie as tie
 
 returns : tie.Need-returns
-returns c = let e : c .before .args .count ≡ min (c .before .args .count) (c .before .args .n) = omega arith in ap (left 0) e
+returns c = let e : c .before .args .count ≡ min (c .before .args .count) (c .before .args .n) = omega arith in ap (rowsLeft 0) e
 
 returns-2 : tie.Need-returns-2
-returns-2 c = let e : c .before .args .n ≡ min (c .before .args .count) (c .before .args .n) = omega arith in ap (left 0) e
+returns-2 c = let e : c .before .args .n ≡ min (c .before .args .count) (c .before .args .n) = omega arith in ap (rowsLeft 0) e
 
 pub begin-spec : {M : Type 1} → statement M
 begin-spec = tie.close (tie.spec returns returns-2)

@@ -9,15 +9,15 @@ use borrow.Author.Needs.{needs}
 use lib.ListN.{length, take, drop}
 use Rattle.model.specs.Bytes.{each}
 use Rattle.model.specs.Lent.{placed}
-use Rattle.rows_maps.specs.Rows.{mapRows, nameOf, ownOf, place-next, own-next, rows-more}
+use Rattle.rows_maps.specs.Rows.{mapRows, mapNameIn, ownBytesIn, place-next, own-next, rows-more}
 use Rattle.rows_maps.proofs.put_map_rows.Statement.{statement}
 use Rattle.rows_maps.proofs.put_map_rows.Tie as tie
 
 abbrev Inv-loop : tie.InvT-loop
 Inv-loop d t v order n at own out₀ place₀ own-place₀ k₀ out place own-place k =
     (k ≤ n) × (length out ≡ length out₀) × (place ≤ at + k * 4294967296) × (own-place ≤ own + k * 4294967296)
-    × (place ≡ at + length (each (nameOf d t v) (take k order)))
-    × (own-place ≡ own + length (each (ownOf d t v) (take k order)))
+    × (place ≡ at + length (each (mapNameIn d t v) (take k order)))
+    × (own-place ≡ own + length (each (ownBytesIn d t v) (take k order)))
     × (out ≡ mapRows d t v at own (take k order) ++ drop (k * 27) out₀)
 
 abbrev μ-loop : tie.MeasureT-loop

@@ -6,7 +6,7 @@ use native.Mathlib.Omega.{arith}
 use denote.Ref.{now}
 use lib.ListN.{length, replicate}
 use lib.Seq.{sets}
-use Rattle.rows_maps.specs.Rows.{sevenWords, front}
+use Rattle.rows_maps.specs.Rows.{sevenWords, rowFront}
 use Rattle.rows_maps.specs.Stores.{sets-append, zeros-put}
 use borrow.Author.Needs.{needs}
 use Rattle.rows_maps.proofs.put_row.Statement.{statement}
@@ -54,7 +54,7 @@ returns c =
     let a = b .args in
     let i : ℕ = a .i in
     let t : List ℕ = now (a .t) in
-    let xs : List ℕ = front (a .place) (a .own) (a .r) in
+    let xs : List ℕ = rowFront (a .place) (a .own) (a .r) in
     let ys : List ℕ = sevenWords (a .r .def) in
     let u : List ℕ = word .last .0 in
     let two : u ≡ sets t i (xs ++ ys) = word .ensures ∙ ap (λ (l : List ℕ). sets l (i + 7) ys) {y = sets t i xs} (put .ensures) ∙ sets-append xs ys t i (i + 7) (omega arith) in

@@ -8,13 +8,13 @@ use lib.ListN.{length}
 use Rattle.model.specs.FunctionNumbers.{rowsIn}
 use Rattle.rows_functions.specs.Rows.{madeOf}
 use Rattle.rows_functions.specs.Stored.{restMade, madeAt, rest-none, rest-next, readable-rest}
-use Rattle.rows_numbers.specs.Flat.{stored, stored-none, stored-next, stored-all}
+use Rattle.rows_numbers.specs.Flat.{numbersStored, stored-none, stored-next, stored-all}
 use Rattle.rows_numbers.proofs.fill_rows.Statement.{statement}
 use Rattle.rows_numbers.proofs.fill_rows.Tie as tie
 
 abbrev Inv-loop : tie.InvT-loop
 Inv-loop numbers₀ d t order n at₀ i₀ numbers at i =
-    (i ≤ n) × (length numbers ≡ length numbers₀) × (at ≡ restMade d t order 0 at₀ i) × (numbers ≡ stored d t order at₀ numbers₀ i)
+    (i ≤ n) × (length numbers ≡ length numbers₀) × (at ≡ restMade d t order 0 at₀ i) × (numbers ≡ numbersStored d t order at₀ numbers₀ i)
 
 abbrev μ-loop : tie.MeasureT-loop
 μ-loop numbers₀ d t order n at₀ i₀ numbers at i = n - i
@@ -83,7 +83,7 @@ returns c =
     let a = l .before .before .before .before .before .args in
     let e : l .loop .i ≡ rowsIn (length (now (a .numbers))) = omega arith in
     stored-all (now (a .d)) (now (a .t)) (now (a .symbols)) (a .rows) (now (a .numbers)) (rowsIn (length (now (a .numbers)))) (l .loop .numbers) (f .last .0)
-    (omega arith) (l .loop .inv .3 ∙ ap (stored (now (a .d)) (now (a .t)) (now (a .symbols)) (a .rows) (now (a .numbers))) e) (f .ensures)
+    (omega arith) (l .loop .inv .3 ∙ ap (numbersStored (now (a .d)) (now (a .t)) (now (a .symbols)) (a .rows) (now (a .numbers))) e) (f .ensures)
 
 pub fill-rows-spec : {M : Type 1} → statement M
 fill-rows-spec =

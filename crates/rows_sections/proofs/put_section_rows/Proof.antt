@@ -9,14 +9,14 @@ use borrow.Author.Needs.{needs}
 use lib.ListN.{length, take, drop}
 use Rattle.model.specs.Bytes.{each}
 use Rattle.model.specs.Lent.{placed}
-use Rattle.rows_sections.specs.Rows.{sectionRows, nameOf, place-next, rows-more}
+use Rattle.rows_sections.specs.Rows.{sectionRows, sectionNameIn, place-next, rows-more}
 use Rattle.rows_sections.proofs.put_section_rows.Statement.{statement}
 use Rattle.rows_sections.proofs.put_section_rows.Tie as tie
 
 abbrev Inv-loop : tie.InvT-loop
 Inv-loop d t v order n at out₀ place₀ k₀ out place k =
     (k ≤ n) × (length out ≡ length out₀) × (place ≤ at + k * 4294967296)
-    × (place ≡ at + length (each (nameOf d t v) (take k order)))
+    × (place ≡ at + length (each (sectionNameIn d t v) (take k order)))
     × (out ≡ sectionRows d t v at (take k order) ++ drop (k * 4) out₀)
 
 abbrev μ-loop : tie.MeasureT-loop
