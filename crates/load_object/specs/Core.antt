@@ -132,7 +132,7 @@ front-in : (ns l : List ℕ) → take (length ns) l ≡ ns → length ns ≤ len
 front-in ns l e = let q : min (length ns) (length l) ≡ length ns = sym (length-take (length ns) l) ∙ ap length e in omega arith
 
 module _ (d t : List ℕ) (v : View) (s p f m : List ℕ) where
-  held-by : Parsed.Held d t v s p f m → length s ≤ 69632 → length p ≤ 69632 → length f ≤ 65536 → length m ≤ 69632 → Held d t v (countsOf d t v) s p f m
+  held-by : Parsed.TablesHeld d t v s p f m → length s ≤ 69632 → length p ≤ 69632 → length f ≤ 65536 → length m ≤ 69632 → Held d t v (countsOf d t v) s p f m
   held-by made a b c e =
       let i₁ = front-in (sectionNumbers d t v) s (made .of-sections) in
       let i₂ = front-in (programNumbers d t v) p (made .of-programs) in

@@ -14,7 +14,7 @@ use Rattle.deposit.specs.Accepted.{AcceptedStream, accepted}
 use Rattle.object.specs.View.{relocIn, sectionFrom, symbolFrom, objectIn}
 
 pub accepted-object : (d t : List ℕ) (h : Head) → AcceptedStream d h → objectOf d ≡ objectIn d t (depositView h)
-unfolding objectIn sectionFrom symbolFrom relocIn depositView sectionAt symbolAt relocationAt depositSection depositSymbol depositRelocation AcceptedStream.sectionIn AcceptedStream.symbolIn AcceptedStream.relocsIn
+unfolding objectIn sectionFrom symbolFrom relocIn depositView sectionAt symbolAt relocationAt depositSection depositSymbol depositRelocation Accepted.streamSection Accepted.streamSymbol Accepted.relocsIn
 accepted-object d t h a = λ k. record { order = a .object-order k; sections = a .object-sections k; symbols = a .object-symbols k }
 
 pub opened-object : (d t : List ℕ) (v : View) → openedOf d ≡ Opened.View v → objectOf d ≡ objectIn d t v

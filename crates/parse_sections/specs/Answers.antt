@@ -68,7 +68,7 @@ module _ (d t : List ℕ) (v : View) (s : SectionRecord) where
       cond (isKind Kind.Program (kindOf sec)) (programsAmong d t v (membersIn d t v s))
       (cond (isKind Kind.Text (kindOf sec)) walkedIn [])
 
-  pub answers-text : (out₀ : List ℕ) (w : ℕ) (r : ParsedText) (out : List ℕ) → text.Parsed d t v s out₀ w r out → Answers (textRefusal o sec) walkedIn out₀ w r out
+  pub answers-text : (out₀ : List ℕ) (w : ℕ) (r : ParsedText) (out : List ℕ) → text.TextParsed d t v s out₀ w r out → Answers (textRefusal o sec) walkedIn out₀ w r out
   answers-text out₀ w r out p = record { answer = go (textRefusal o sec) refl; listed = λ e. p .numbers ∙ ap (numbersLaid out₀ w) (numbers-of-walk d t v s e) }
     where
       go : (q : Option Refusal) → textRefusal o sec ≡ q → r ≡ parsedText q (w + length walkedIn)
