@@ -20,27 +20,27 @@ use Rattle.records.specs.View.{gapOf, symbolAt, dataIn}
 use Rattle.records.specs.Readable.{DataFits, Readable}
 use Rattle.object.specs.Offset.{codeOffset}
 use Rattle.object.specs.View.{sectionFrom, symbolFrom}
-use Rattle.catalogue_numbers.specs.Numbers.{homeAt, functionAt}
+use Rattle.catalogue_numbers.specs.Numbers.{homeAt, functionByNumber}
 use Rattle.catalogue_numbers.specs.Fits.{FunctionFits}
-use Rattle.catalogue_numbers.specs.Function.{sectionOf, startOf, function-is}
+use Rattle.catalogue_numbers.specs.Function.{sectionOfFunction, startOf, function-is}
 
 module _ (d t : List ℕ) (v : View) where
   abbrev pub codeAt : ℕ → List ℕ
-  codeAt j = functionCode (functionAt d t v j)
+  codeAt j = functionCode (functionByNumber d t v j)
 
   -- the first n numbers of a table are functions that fit their sections
   abbrev pub AllFit : List ℕ → ℕ → Type 0
   AllFit order n = (k : ℕ) → k < n → FunctionFits d t v (getD order k 0)
 
-  offset-is : (j : ℕ) → functionAt d t v j .offset ≡ startOf d t v j
+  offset-is : (j : ℕ) → functionByNumber d t v j .offset ≡ startOf d t v j
   unfolding functionOf
   offset-is j = ap (λ (f : Function). f .offset) (function-is d t v j)
 
   -- its bytes in the data
   abbrev pub codeBytes : ℕ → List ℕ
-  codeBytes j = part (dataIn d v (sectionOf d t v j .bytes)) (startOf d t v j) (symbolAt d t v j .size)
+  codeBytes j = part (dataIn d v (sectionOfFunction d t v j .bytes)) (startOf d t v j) (symbolAt d t v j .size)
 
-  pub code-read : (j : ℕ) → functionAt d t v j .code ≡ instructions (symbolAt d t v j .size / 8) (codeBytes j)
+  pub code-read : (j : ℕ) → functionByNumber d t v j .code ≡ instructions (symbolAt d t v j .size / 8) (codeBytes j)
   unfolding functionOf sectionFrom symbolFrom
   code-read j = ap (λ (f : Function). f .code) (function-is d t v j)
 
@@ -58,11 +58,11 @@ all-small d gap small p (suc n) = (small p, all-small d gap small (p + 1) n)
 
 -- a function that fits its section
 module _ (d t : List ℕ) (v : View) (j : ℕ) (fits : FunctionFits d t v j) where
-  inside : startOf d t v j + symbolAt d t v j .size ≤ sectionOf d t v j .bytes .length
+  inside : startOf d t v j + symbolAt d t v j .size ≤ sectionOfFunction d t v j .bytes .length
   inside = rw offset-is at (fits .within)
 
-  bytes-are : codeBytes d t v j ≡ bytesAt d (gapOf v) (v .at .bytes + sectionOf d t v j .bytes .at + startOf d t v j) (symbolAt d t v j .size)
-  bytes-are = part-bytes d (gapOf v) (v .at .bytes + sectionOf d t v j .bytes .at) (sectionOf d t v j .bytes .length) (startOf d t v j) (symbolAt d t v j .size) inside
+  bytes-are : codeBytes d t v j ≡ bytesAt d (gapOf v) (v .at .bytes + sectionOfFunction d t v j .bytes .at + startOf d t v j) (symbolAt d t v j .size)
+  bytes-are = part-bytes d (gapOf v) (v .at .bytes + sectionOfFunction d t v j .bytes .at) (sectionOfFunction d t v j .bytes .length) (startOf d t v j) (symbolAt d t v j .size) inside
 
   module _ (small : (k : ℕ) → byteAt d (gapOf v) k < 256) where
     -- whole instructions
@@ -70,29 +70,29 @@ module _ (d t : List ℕ) (v : View) (j : ℕ) (fits : FunctionFits d t v j) whe
     bytes-found =
         let w = fits .whole in
         let l : length (codeBytes d t v j) ≡ symbolAt d t v j .size =
-        ap length bytes-are ∙ length-bytes d (gapOf v) (v .at .bytes + sectionOf d t v j .bytes .at + startOf d t v j) (symbolAt d t v j .size)
+        ap length bytes-are ∙ length-bytes d (gapOf v) (v .at .bytes + sectionOfFunction d t v j .bytes .at + startOf d t v j) (symbolAt d t v j .size)
         in
         (omega (arith, l, w), rw bytes-are (all-small d (gapOf v) small _ _))
 
-    code-bytes : codeAt d t v j ≡ bytesAt d (gapOf v) (v .at .bytes + sectionOf d t v j .bytes .at + startOf d t v j) (symbolAt d t v j .size)
+    code-bytes : codeAt d t v j ≡ bytesAt d (gapOf v) (v .at .bytes + sectionOfFunction d t v j .bytes .at + startOf d t v j) (symbolAt d t v j .size)
     code-bytes =
         ap (each eight) (code-read d t v j) ∙ code-is (symbolAt d t v j .size / 8) (codeBytes d t v j) (bytes-found .0) (bytes-found .1) ∙ bytes-are
 
     pub code-length : length (codeAt d t v j) ≡ symbolAt d t v j .size
-    code-length = ap length code-bytes ∙ length-bytes d (gapOf v) (v .at .bytes + sectionOf d t v j .bytes .at + startOf d t v j) (symbolAt d t v j .size)
+    code-length = ap length code-bytes ∙ length-bytes d (gapOf v) (v .at .bytes + sectionOfFunction d t v j .bytes .at + startOf d t v j) (symbolAt d t v j .size)
 
   -- of a view that is readable
   module _ (r : Readable d t v) where
-    of-data : DataFits d v (sectionOf d t v j .bytes)
+    of-data : DataFits d v (sectionOfFunction d t v j .bytes)
     of-data = r .section-data (homeAt d t v j) (fits .home)
 
     pub size-small : symbolAt d t v j .size < 2 ^ 32
     size-small = omega (arith, inside, of-data .short)
 
     module _ (small : (k : ℕ) → byteAt d (gapOf v) k < 256) where
-      is-found : CodeFound d t v j (sectionOf d t v j) (startOf d t v j) (symbolAt d t v j)
+      is-found : CodeFound d t v j (sectionOfFunction d t v j) (startOf d t v j) (symbolAt d t v j)
       is-found =
-          let b = sectionOf d t v j .bytes in
+          let b = sectionOfFunction d t v j .bytes in
           let end : v .at .bytes + b .at + startOf d t v j + symbolAt d t v j .size ≤ v .at .bytes + b .at + b .length = omega (arith, inside) in
           record {
             short = omega (arith, inside, of-data .short);
@@ -101,5 +101,5 @@ module _ (d t : List ℕ) (v : View) (j : ℕ) (fits : FunctionFits d t v j) whe
             placed = le-trans (place-mono (gapOf v) _ _ end) (of-data .placed);
           }
 
-      pub found : (y : SymbolRecord) (s : SectionRecord) (o : ℕ) → y ≡ symbolAt d t v j → s ≡ sectionOf d t v j → o ≡ codeOffset d t v s y → CodeFound d t v j s o y
+      pub found : (y : SymbolRecord) (s : SectionRecord) (o : ℕ) → y ≡ symbolAt d t v j → s ≡ sectionOfFunction d t v j → o ≡ codeOffset d t v s y → CodeFound d t v j s o y
       found y s o ey es eo = rw (eo, es, ey) is-found

@@ -14,7 +14,7 @@ use Rattle.model.specs.Patching.{rewriteFunction}
 use Rattle.stream.specs.Stream.{byteAt}
 use Rattle.records.specs.View.{gapOf, symbolAt}
 use Rattle.insn.specs.Sanitized.{sanitized, sanitized-code, sanitized-join, length-each-eight}
-use Rattle.catalogue_numbers.specs.Numbers.{functionAt}
+use Rattle.catalogue_numbers.specs.Numbers.{functionByNumber}
 use Rattle.catalogue_numbers.specs.Fits.{FunctionFits}
 use Rattle.bytes_code.specs.Code.{codeBytes, code-read, AllFit, bytes-found}
 
@@ -44,12 +44,12 @@ rewritten-code (f ∷ fs) e =
 
 -- those of a table of numbers
 module _ (d t : List ℕ) (v : View) (small : (k : ℕ) → byteAt d (gapOf v) k < 256) where
-  encoded : (j : ℕ) → FunctionFits d t v j → Encoded (functionAt d t v j)
+  encoded : (j : ℕ) → FunctionFits d t v j → Encoded (functionByNumber d t v j)
   encoded j fits =
       let b = bytes-found d t v j fits small in
       record { count = symbolAt d t v j .size / 8; bytes = codeBytes d t v j; read = code-read d t v j; long = b .0; all = b .1 }
 
-  pub all-encoded : (order : List ℕ) (n : ℕ) → AllFit d t v order n → AllEncoded (map (functionAt d t v) (take n order))
+  pub all-encoded : (order : List ℕ) (n : ℕ) → AllFit d t v order n → AllEncoded (map (functionByNumber d t v) (take n order))
   all-encoded [] zero fit = tt
   all-encoded [] (suc n) fit = tt
   all-encoded (j ∷ order) zero fit = tt

@@ -11,7 +11,7 @@ use Rattle.catalogue_laws.specs.SectionsPrograms.{All}
 use Rattle.stream.specs.Stream.{length-bytes}
 use Rattle.records.specs.View.{gapOf, symbolAt}
 use Rattle.catalogue_numbers.specs.Fits.{FunctionFits}
-use Rattle.catalogue_numbers.specs.Numbers.{homeAt, functionAt}
+use Rattle.catalogue_numbers.specs.Numbers.{homeAt, functionByNumber}
 use Rattle.insn.specs.Sanitized.{length-each-eight}
 use Rattle.bytes_code.specs.Code.{codeAt, codeBytes, code-read}
 use Rattle.model.specs.Instruction.{instructions}
@@ -56,7 +56,7 @@ module _ (d t : List ℕ) (v : View) (r : Readable d t v) where
   code-short : (j : ℕ) → FunctionFits d t v j → length (codeAt d t v j) ≤ 16777216
   code-short j e =
       let l : length (codeAt d t v j) ≡ symbolAt d t v j .size / 8 * 8 =
-      length-each-eight (functionAt d t v j .code) ∙ ap (λ is. length is * 8) (code-read d t v j) ∙ ap (λ n. n * 8) (length-instructions (symbolAt d t v j .size / 8) (codeBytes d t v j))
+      length-each-eight (functionByNumber d t v j .code) ∙ ap (λ is. length is * 8) (code-read d t v j) ∙ ap (λ n. n * 8) (length-instructions (symbolAt d t v j .size / 8) (codeBytes d t v j))
       in
       omega (arith, e .within, r .section-data (homeAt d t v j) (e .home) .short)
 

@@ -10,7 +10,7 @@ use Rattle.lists.specs.Tab.{tab}
 use Rattle.model.specs.declared.Endianness.{Endianness}
 use Rattle.model.specs.Bytes.{push, keep, firstIn, find, orElse, maybe}
 use Rattle.model.specs.Object.{Section, Symbol, Object}
-use Rattle.model.specs.Symbols.{top, isText, liesIn, symbolsOf, isProgram, programSymbols, definedText, symbolAt}
+use Rattle.model.specs.Symbols.{top, isText, liesIn, symbolsOf, isProgram, programSymbols, definedText, textSymbolAt}
 use Rattle.model.specs.Refusals.{ofSymbol, sharedRefusal}
 use Rattle.orders.specs.Sort.{sorted}
 use Rattle.catalogue_laws.specs.Numbers.{upTo, keep-map, tab-is-map}
@@ -124,8 +124,8 @@ module _ (e : Endianness) (ss : List Section) (at : ℕ → Symbol) (Y : ℕ) wh
       go true h = refl
       go false h = h
 
-  pub symbol-at-by : (s : Section) (o : ℕ) → symbolAt s (definedText objectBy s) o ≡ cond (leb (s .address + o) top) (maybe (numberAt s (s .address + o)) none (λ j. some (at j))) none
-  unfolding symbolAt textOrder
+  pub symbol-at-by : (s : Section) (o : ℕ) → textSymbolAt s (definedText objectBy s) o ≡ cond (leb (s .address + o) top) (maybe (numberAt s (s .address + o)) none (λ j. some (at j))) none
+  unfolding textSymbolAt textOrder
   symbol-at-by s o =
       ap (λ f. cond (leb (s .address + o) top) f none)
       (ap (find (λ y. eqb (y .address) (s .address + o))) (text-by s)

@@ -13,7 +13,7 @@ use Rattle.model.specs.declared.Endianness.{Endianness}
 use Rattle.model.specs.declared.Refusal.{Refusal}
 use Rattle.model.specs.Bytes.{firstIn, find, orElse, maybe, each}
 use Rattle.model.specs.Object.{Section, Symbol, Object}
-use Rattle.model.specs.Symbols.{top, definedText, symbolAt, stops}
+use Rattle.model.specs.Symbols.{top, definedText, textSymbolAt, stops}
 use Rattle.model.specs.Catalogue.{Function}
 use Rattle.model.specs.Contents.{functionAt, textFunction}
 use Rattle.model.specs.Refusals.{ofSection, stopRefusal}
@@ -27,7 +27,7 @@ module _ (e : Endianness) (ss : List Section) (at : ℕ → Symbol) (Y : ℕ) (s
   abbrev pub numberIn : ℕ → Option ℕ
   numberIn o = cond (leb (s .address + o) top) (numberAt e ss at Y s (s .address + o)) none
 
-  symbol-in : (o : ℕ) → symbolAt s (definedText the s) o ≡ maybe (numberIn o) none (λ j. some (at j))
+  symbol-in : (o : ℕ) → textSymbolAt s (definedText the s) o ≡ maybe (numberIn o) none (λ j. some (at j))
   symbol-in o = symbol-at-by e ss at Y s o ∙ go (leb (s .address + o) top)
     where
       go : (b : Bool) → cond b (maybe (numberAt e ss at Y s (s .address + o)) none (λ j. some (at j))) none
@@ -48,13 +48,13 @@ module _ (e : Endianness) (ss : List Section) (at : ℕ → Symbol) (Y : ℕ) (s
   -- '12. The next text address passes 2^64 - 1 or has no defined text symbol.'
   pub walk-lost : (n o : ℕ) → o < length (s .bytes) → numberIn o ≡ none → walkRefusal (suc n) o ≡ ofSection 12 s true
   unfolding walkRefusal stops firstIn stopRefusal
-  walk-lost n o h q = let m : symbolAt s (definedText the s) o ≡ none = symbol-in o ∙ rw q in rw (lt-ltb o (length (s .bytes)) h, m)
+  walk-lost n o h q = let m : textSymbolAt s (definedText the s) o ≡ none = symbol-in o ∙ rw q in rw (lt-ltb o (length (s .bytes)) h, m)
 
   -- 13 to 15 at the symbol met, then the rest of the walk
   pub walk-met : (n o j : ℕ) → o < length (s .bytes) → numberIn o ≡ some j
       → walkRefusal (suc n) o ≡ orElse (stopRefusal s (record { at = o; met = some (at j) })) (walkRefusal n (o + at j .size))
   unfolding walkRefusal stops firstIn
-  walk-met n o j h q = let m : symbolAt s (definedText the s) o ≡ some (at j) = symbol-in o ∙ rw q in rw (lt-ltb o (length (s .bytes)) h, m)
+  walk-met n o j h q = let m : textSymbolAt s (definedText the s) o ≡ some (at j) = symbol-in o ∙ rw q in rw (lt-ltb o (length (s .bytes)) h, m)
 
   -- the numbers of the symbols met
   unfoldable pub walkNumbers : ℕ → ℕ → List ℕ
@@ -95,7 +95,7 @@ module _ (e : Endianness) (ss : List Section) (at : ℕ → Symbol) (Y : ℕ) (s
   pub functions-met : (n o : ℕ) → each (textFunction s) (stops n s (definedText the s) o) ≡ map textFunctionOf (walkNumbers n o)
   unfolding walkNumbers stops each textFunction textFunctionOf
   functions-met zero o = refl
-  functions-met (suc n) o = go (ltb o (length (s .bytes))) (numberIn o) (symbolAt s (definedText the s) o) refl (symbol-in o) (λ j. functions-met n (o + at j .size))
+  functions-met (suc n) o = go (ltb o (length (s .bytes))) (numberIn o) (textSymbolAt s (definedText the s) o) refl (symbol-in o) (λ j. functions-met n (o + at j .size))
     where
       one : (j : ℕ) → numberIn o ≡ some j → functionAt s (s .address + o) o (at j) ≡ functionAt s (at j .address) (at j .address - s .address) (at j)
       one j q =

@@ -6,14 +6,14 @@ use Rattle.object_view.specs.declared.View.{View}
 use Rattle.records.specs.declared.MapSource.{MapSource}
 use Rattle.records.specs.View.{sectionAt, symbolAt}
 use Rattle.records.specs.Maps.{mapSourceOf}
-use Rattle.catalogue_numbers.specs.Numbers.{homeAt, functionAt}
+use Rattle.catalogue_numbers.specs.Numbers.{homeAt, functionByNumber}
 
 module _ (d t : List ℕ) (v : View) where
   -- a function's symbol: its code lies in the data of its section, in whole instructions
   pub record FunctionFits (j : ℕ) : Type 0 where
     pub symbol : j < v .symbols
     pub home : homeAt d t v j < v .sections
-    pub within : functionAt d t v j .offset + symbolAt d t v j .size ≤ sectionAt d t v (homeAt d t v j) .bytes .length
+    pub within : functionByNumber d t v j .offset + symbolAt d t v j .size ≤ sectionAt d t v (homeAt d t v j) .bytes .length
     pub whole : symbolAt d t v j .size % 8 ≡ 0
 
   -- a map's symbol: its record lies in the data of its section

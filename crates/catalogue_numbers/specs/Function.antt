@@ -13,24 +13,24 @@ use Rattle.records.specs.View.{sectionAt, symbolAt}
 use Rattle.catalogue_laws.specs.Walk.{textFunctionOf}
 use Rattle.object.specs.Offset.{recordOffset, codeOffset}
 use Rattle.object.specs.View.{sectionFrom, symbolFrom, sectionIn, symbolIn}
-use Rattle.catalogue_numbers.specs.Numbers.{homeAt, functionAt}
+use Rattle.catalogue_numbers.specs.Numbers.{homeAt, functionByNumber}
 
 module _ (d t : List ℕ) (v : View) (j : ℕ) where
   -- the record of its section
-  abbrev pub sectionOf : SectionRecord
-  sectionOf = sectionAt d t v (homeAt d t v j)
+  abbrev pub sectionOfFunction : SectionRecord
+  sectionOfFunction = sectionAt d t v (homeAt d t v j)
 
   abbrev pub startOf : ℕ
-  startOf = codeOffset d t v sectionOf (symbolAt d t v j)
+  startOf = codeOffset d t v sectionOfFunction (symbolAt d t v j)
 
-  pub function-is : functionAt d t v j ≡ functionOf (sectionFrom d t v sectionOf) (symbolAt d t v j .address) startOf (symbolIn d t v j)
+  pub function-is : functionByNumber d t v j ≡ functionOf (sectionFrom d t v sectionOfFunction) (symbolAt d t v j .address) startOf (symbolIn d t v j)
   unfolding codeOffset programFunction textFunctionOf sectionFrom symbolFrom
   function-is = go (isKind Kind.Program (kindOf (sectionIn d t v (homeAt d t v j))))
     where
       go : (b : Bool)
           → cond b (programFunction (sectionIn d t v (homeAt d t v j)) (symbolIn d t v j))
           (textFunctionOf (v .order) (tab (sectionIn d t v) (v .sections)) (symbolIn d t v) (v .symbols) (sectionIn d t v (homeAt d t v j)) j)
-          ≡ functionOf (sectionFrom d t v sectionOf) (symbolAt d t v j .address)
-          (cond b (recordOffset sectionOf (symbolAt d t v j)) (symbolAt d t v j .address - sectionOf .address)) (symbolIn d t v j)
+          ≡ functionOf (sectionFrom d t v sectionOfFunction) (symbolAt d t v j .address)
+          (cond b (recordOffset sectionOfFunction (symbolAt d t v j)) (symbolAt d t v j .address - sectionOfFunction .address)) (symbolIn d t v j)
       go true = refl
       go false = refl

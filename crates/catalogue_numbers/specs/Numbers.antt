@@ -62,14 +62,14 @@ module _ (d t : List ℕ) (v : View) where
 
   -- ---- what a number stands for
 
-  abbrev pub entryAt : ℕ → SectionEntry
-  entryAt = entryIn order (sectionIn d t v) (v .sections) (symbolIn d t v) (v .symbols)
+  abbrev pub sectionEntryAt : ℕ → SectionEntry
+  sectionEntryAt = entryIn order (sectionIn d t v) (v .sections) (symbolIn d t v) (v .symbols)
 
-  abbrev pub programAt : ℕ → Program
-  programAt = programIn order (sectionIn d t v) (v .sections) (symbolIn d t v) (v .symbols)
+  abbrev pub programByNumber : ℕ → Program
+  programByNumber = programIn order (sectionIn d t v) (v .sections) (symbolIn d t v) (v .symbols)
 
-  abbrev pub functionAt : ℕ → Function
-  functionAt = functionIn order (sectionIn d t v) (v .sections) (symbolIn d t v) (v .symbols)
+  abbrev pub functionByNumber : ℕ → Function
+  functionByNumber = functionIn order (sectionIn d t v) (v .sections) (symbolIn d t v) (v .symbols)
 
   abbrev pub mapAt : ℕ → Map
   mapAt = mapIn order (sectionIn d t v) (v .sections) (symbolIn d t v) (v .symbols)
@@ -120,19 +120,19 @@ module _ (d t : List ℕ) (v : View) where
   abbrev pub Named : Type 0
   Named = (i : ℕ) → i < v .sections → isKind Kind.Program (kindOf (sectionIn d t v i)) ≡ true → isSome (programOf (sectionIn d t v i .name)) ≡ true
 
-  pub sections-by : catalogueOf (objectIn d t v) .sections ≡ map entryAt sectionNumbers
+  pub sections-by : catalogueOf (objectIn d t v) .sections ≡ map sectionEntryAt sectionNumbers
   unfolding objectIn sectionNumbers sectionCandidates
-  sections-by = sections-are order (sectionIn d t v) (v .sections) (symbolIn d t v) (v .symbols) ∙ ap (λ key. map entryAt (tableOf key sectionCandidates)) (sym section-name-key)
+  sections-by = sections-are order (sectionIn d t v) (v .sections) (symbolIn d t v) (v .symbols) ∙ ap (λ key. map sectionEntryAt (tableOf key sectionCandidates)) (sym section-name-key)
 
-  pub programs-by : Readable d t v → Named → catalogueOf (objectIn d t v) .programs ≡ map programAt programNumbers
+  pub programs-by : Readable d t v → Named → catalogueOf (objectIn d t v) .programs ≡ map programByNumber programNumbers
   unfolding objectIn programNumbers programCandidates
   programs-by r named =
-      programs-are order (sectionIn d t v) (v .sections) (symbolIn d t v) (v .symbols) (rising d t v (r .sections-rise)) named ∙ ap (λ key. map programAt (tableOf key programCandidates)) (sym symbol-name-key)
+      programs-are order (sectionIn d t v) (v .sections) (symbolIn d t v) (v .symbols) (rising d t v (r .sections-rise)) named ∙ ap (λ key. map programByNumber (tableOf key programCandidates)) (sym symbol-name-key)
 
-  pub functions-by : Readable d t v → catalogueOf (objectIn d t v) .functions ≡ map functionAt functionNumbers
+  pub functions-by : Readable d t v → catalogueOf (objectIn d t v) .functions ≡ map functionByNumber functionNumbers
   unfolding objectIn functionNumbers functionCandidates
   functions-by r =
-      functions-are order (sectionIn d t v) (v .sections) (symbolIn d t v) (v .symbols) (rising d t v (r .sections-rise)) ∙ ap (λ key. map functionAt (tableOf key functionCandidates)) (sym address-key)
+      functions-are order (sectionIn d t v) (v .sections) (symbolIn d t v) (v .symbols) (rising d t v (r .sections-rise)) ∙ ap (λ key. map functionByNumber (tableOf key functionCandidates)) (sym address-key)
 
   pub maps-by : Readable d t v → catalogueOf (objectIn d t v) .maps ≡ map mapAt mapNumbers
   unfolding objectIn mapNumbers mapCandidates

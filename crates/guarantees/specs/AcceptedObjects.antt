@@ -16,7 +16,7 @@ use Rattle.model.specs.SectionKind.{isKind, kindOf}
 use Rattle.model.specs.ProgramName.{fromStr, sectionNumber}
 use Rattle.model.specs.Instruction.{invalidProgramCode}
 use Rattle.model.specs.Catalogue.{Function}
-use Rattle.model.specs.Symbols.{top, symbolsOf, programSymbols, definedText, symbolAt, Stop, stops, walkOf, firstNamed}
+use Rattle.model.specs.Symbols.{top, symbolsOf, programSymbols, definedText, textSymbolAt, Stop, stops, walkOf, firstNamed}
 use Rattle.model.specs.Contents.{functionAt, programFunction, textFunction, functionsOf}
 use Rattle.model.specs.Refusals.{ofSection, ofSymbol, ofNumber, relocRefusal, licenceRefusal, versionRefusal, passes, isEmpty, programSymbolRefusal, programRefusal, sharedRefusal, stopRefusal, textRefusal, kindRefusal, sectionRefusal, objectRefusal, refusalOf}
 use Rattle.guarantees.specs.OptionsAndLists.{not-some, orElse-none, refuse-none, both-false, firstIn-none, find-∈, map-∈, each-∈}
@@ -131,15 +131,15 @@ stop-accepted s at y h =
 -- the symbol that a walk meets is one of those that it searches, at the section's address plus the offset
 pub stop-∈ : (n : ℕ) (s : Section) (ys : List Symbol) (at : ℕ) (p : Stop) (y : Symbol) → p ∈ stops n s ys at → p .met ≡ some y
     → (y ∈ ys) × (y .address ≡ s .address + p .at)
-unfolding stops symbolAt
+unfolding stops textSymbolAt
 stop-∈ zero s ys at p y m e = absurd m
-stop-∈ (suc n) s ys at p y m e = go (ltb at (length (s .bytes))) (symbolAt s ys at) refl m (λ z k. stop-∈ n s ys (at + z .size) p y k e)
+stop-∈ (suc n) s ys at p y m e = go (ltb at (length (s .bytes))) (textSymbolAt s ys at) refl m (λ z k. stop-∈ n s ys (at + z .size) p y k e)
   where
     here : (b : Bool) → cond b (find (λ z. eqb (z .address) (s .address + at)) ys) none ≡ some y → (y ∈ ys) × (y .address ≡ s .address + at)
     here true q = let (m, k) = find-∈ (λ z. eqb (z .address) (s .address + at)) y ys q in (m, eqb-true _ _ k)
     here false q = not-some y (sym q)
 
-    go : (b : Bool) (t : Option Symbol) → symbolAt s ys at ≡ t
+    go : (b : Bool) (t : Option Symbol) → textSymbolAt s ys at ≡ t
         → p ∈ cond b (record { at = at; met = t } ∷ maybe t [] (λ z. stops n s ys (at + z .size))) []
         → ((z : Symbol) → p ∈ stops n s ys (at + z .size) → (y ∈ ys) × (y .address ≡ s .address + p .at))
         → (y ∈ ys) × (y .address ≡ s .address + p .at)

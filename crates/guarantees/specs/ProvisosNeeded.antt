@@ -19,8 +19,8 @@ use Rattle.model.specs.LicenceVersion.{hasZero, parseLicense, number, versionIn
 use Rattle.model.specs.Instruction.{signed, instructionOf, instructions, invalidProgramCode, stated, statedFor, rewrite}
 use Rattle.model.specs.Table.{put, tableOf}
 use Rattle.model.specs.Catalogue.{Catalogue}
-use Rattle.model.specs.Symbols.{symbolsOf, isProgram, programSymbols, definedText, symbolAt, stops, walkOf, firstNamed}
-use Rattle.model.specs.Contents.{licenceOf, versionOf, sectionEntries, programAt, programsOf, functionAt, programFunction, textFunction, functionsOf, wordsOf, invalidMapDefinition, recordOf, legacyMap, dataWords, dataMap, mapsOf, relocationAt, relocationsOf, catalogueOf}
+use Rattle.model.specs.Symbols.{symbolsOf, isProgram, programSymbols, definedText, textSymbolAt, stops, walkOf, firstNamed}
+use Rattle.model.specs.Contents.{licenceOf, versionOf, sectionEntries, programAt, programsOf, functionAt, programFunction, textFunction, functionsOf, wordsOf, invalidMapDefinition, recordOf, legacyMap, dataWords, dataMap, mapsOf, relocationOf, relocationsOf, catalogueOf}
 use Rattle.model.specs.Refusals.{untargeted, relocRefusal, licenceRefusal, versionRefusal, passes, programSymbolRefusal, programRefusal, mapSymbolRefusal, mapsRefusal, sharedRefusal, stopRefusal, textRefusal, kindRefusal, sectionRefusal, objectRefusal, bearers, placeRefusal, bearerRefusal, entryRefusal, patchRefusal, refusalOf}
 use Rattle.model.specs.Patching.{patchMap, withMaps, patchMaps, patched, rewriteFunction, rewritten, Verdict, accepted, finish, load}
 use Rattle.guarantees.specs.WordsOfDemand3.{Stands, FirstHalf, givenBy, lastGiven, mapAfter, instructionAfter, functionAfter, after}
@@ -29,7 +29,7 @@ use Rattle.guarantees.specs.ProvisosDecided.{isNamed, distinct, noneName
 
 -- every definition that a load of an object runs through
 unfoldable pub computedLoad : Object → List Patch → Bool → Verdict
-unfolding keep each firstIn find same startsWith before little littleBytes fromName orProgram kindOf readings cut fits programOf fromStr hasZero parseLicense number versionIn parseVersion signed instructionOf instructions invalidProgramCode stated statedFor rewrite put tableOf symbolsOf isProgram programSymbols definedText symbolAt stops walkOf firstNamed licenceOf versionOf sectionEntries programAt programsOf functionAt programFunction textFunction functionsOf wordsOf invalidMapDefinition recordOf legacyMap dataWords dataMap mapsOf relocationAt relocationsOf catalogueOf untargeted relocRefusal licenceRefusal versionRefusal passes programSymbolRefusal programRefusal mapSymbolRefusal mapsRefusal sharedRefusal stopRefusal textRefusal kindRefusal sectionRefusal objectRefusal bearers placeRefusal bearerRefusal entryRefusal patchRefusal refusalOf patchMap withMaps patchMaps patched rewriteFunction rewritten finish load
+unfolding keep each firstIn find same startsWith before little littleBytes fromName orProgram kindOf readings cut fits programOf fromStr hasZero parseLicense number versionIn parseVersion signed instructionOf instructions invalidProgramCode stated statedFor rewrite put tableOf symbolsOf isProgram programSymbols definedText textSymbolAt stops walkOf firstNamed licenceOf versionOf sectionEntries programAt programsOf functionAt programFunction textFunction functionsOf wordsOf invalidMapDefinition recordOf legacyMap dataWords dataMap mapsOf relocationOf relocationsOf catalogueOf untargeted relocRefusal licenceRefusal versionRefusal passes programSymbolRefusal programRefusal mapSymbolRefusal mapsRefusal sharedRefusal stopRefusal textRefusal kindRefusal sectionRefusal objectRefusal bearers placeRefusal bearerRefusal entryRefusal patchRefusal refusalOf patchMap withMaps patchMaps patched rewriteFunction rewritten finish load
 computedLoad o ps on = load o ps on
 
 abbrev pub section : ℕ → Bool → List ℕ → ℕ → List ℕ → Section

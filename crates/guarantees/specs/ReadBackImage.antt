@@ -77,7 +77,7 @@ use Rattle.model.specs.Catalogue.{SectionEntry, Program, Function, Map, Relocat
 use Rattle.model.specs.ProgramNumbers.{variantOf}
 use Rattle.model.specs.Lent.{symbolNumber, nothing, sectionName, programName, functionName, functionCode, mapName, mapOwn, placed, sectionRow, programRow, functionRow, mapRow, relocationRow, bytesOf, sectionsAt, programsAt, functionsAt, codeStart, mapsAt, ownStart, summaryOf, Lent, joined, imageOf, zeroRow, filledTo}
 use Rattle.model.specs.declared.Room.{Room}
-use Rattle.model.specs.ReadBack.{programFrom, kindFrom, symbolFrom, sectionFrom, programRead, functionRead, mapRead, relocationRead, readBack}
+use Rattle.model.specs.ReadBack.{programFrom, kindFrom, symbolReadBack, sectionReadBack, programRead, functionRead, mapRead, relocationRead, readBack}
 
 -- ---- a piece stands at a place of the bytes
 
@@ -239,11 +239,11 @@ pub record Sound (c : Catalogue) : Type 0 where
   -- 'seven words'
   pub words : (m : Map) → m ∈ c .maps → length (m .def .words) ≡ 7
 
-symbol-back : (y : Option SymbolIndex) → Numbered y → symbolFrom (symbolNumber y) ≡ y
+symbol-back : (y : Option SymbolIndex) → Numbered y → symbolReadBack (symbolNumber y) ≡ y
 symbol-back none h = refl
 symbol-back (some y) h = go (y .0) h
   where
-    go : (n : ℕ) → 0 < n → symbolFrom n ≡ some (record { 0 = n })
+    go : (n : ℕ) → 0 < n → symbolReadBack n ≡ some (record { 0 = n })
     go zero h = let no : ⊥ = omega arith in absurd no
     go (suc n) h = refl
 
@@ -317,8 +317,8 @@ section-wide : (i j : ℕ) (e : SectionEntry) → length (sectionRow i j e) ≡ 
 unfolding sectionRow
 section-wide i j e = refl
 
-section-back : (bytes : List ℕ) (e : SectionEntry) (i j : ℕ) → Holds bytes i (e .name) → sectionFrom bytes (sectionRow i j e) ≡ e
-unfolding sectionRow sectionFrom
+section-back : (bytes : List ℕ) (e : SectionEntry) (i j : ℕ) → Holds bytes i (e .name) → sectionReadBack bytes (sectionRow i j e) ≡ e
+unfolding sectionRow sectionReadBack
 section-back bytes e i j h = λ k. record { name = h k; index = e .index; size = e .size }
 
 program-wide : (i j : ℕ) (p : Program) → length (programRow i j p) ≡ 7
@@ -436,8 +436,8 @@ read-back c z good =
     let bytes = bytesOf c ++ z .bytes in
     let at : PiecesLaid c bytes = laid c bytes (take-append-seam (bytesOf c) (z .bytes)) in
     let ss =
-    numbers-back sectionName nothing sectionRow (sectionFrom bytes) 4 section-wide (sectionsAt c) 0 (c .sections) (z .sections)
-    ∙ placed-back sectionName nothing sectionRow bytes (sectionFrom bytes) (sectionsAt c) 0 (c .sections) (at .sections) (none-held bytes 0 (c .sections)) (λ x i j m h g. section-back bytes x i j h) in
+    numbers-back sectionName nothing sectionRow (sectionReadBack bytes) 4 section-wide (sectionsAt c) 0 (c .sections) (z .sections)
+    ∙ placed-back sectionName nothing sectionRow bytes (sectionReadBack bytes) (sectionsAt c) 0 (c .sections) (at .sections) (none-held bytes 0 (c .sections)) (λ x i j m h g. section-back bytes x i j h) in
     let ps =
     numbers-back programName nothing programRow (programRead bytes) 7 program-wide (programsAt c) 0 (c .programs) (z .programs)
     ∙ placed-back programName nothing programRow bytes (programRead bytes) (programsAt c) 0 (c .programs) (at .programs) (none-held bytes 0 (c .programs)) (λ x i j m h g. program-back bytes x i j h) in

@@ -18,7 +18,7 @@ use Rattle.model.specs.SectionKind.{kindOf}
 use Rattle.model.specs.Catalogue.{Function, functionKey}
 use Rattle.model.specs.Table.{tableOf}
 use Rattle.model.specs.Instruction.{eight, instructions}
-use Rattle.model.specs.Symbols.{symbolAt, Stop, stops, walkOf, definedText}
+use Rattle.model.specs.Symbols.{textSymbolAt, Stop, stops, walkOf, definedText}
 use Rattle.model.specs.Contents.{functionAt, textFunction, functionsOf, catalogueOf}
 use Rattle.model.specs.Refusals.{stopRefusal}
 use Rattle.guarantees.specs.OptionsAndLists.{not-some, orElse-none, firstIn-none, each-∈}
@@ -46,7 +46,7 @@ walk-tiles : (s : Section) (ys : List Symbol) (n at : ℕ) → AllBytes (s .byte
 unfolding stops each firstIn textFunction functionAt stopRefusal
 walk-tiles s ys zero at b l h =
     let k : length (s .bytes) ≤ at = omega arith in record { joined = sym (drop-of-length-le (s .bytes) k); follow = tt; rise = tt }
-walk-tiles s ys (suc n) at b l h = go (ltb at (length (s .bytes))) (symbolAt s ys at) refl h (λ y. walk-tiles s ys n (at + y .size) b)
+walk-tiles s ys (suc n) at b l h = go (ltb at (length (s .bytes))) (textSymbolAt s ys at) refl h (λ y. walk-tiles s ys n (at + y .size) b)
   where
     go : (c : Bool) (m : Option Symbol) → ltb at (length (s .bytes)) ≡ c
         → firstIn (stopRefusal s) (cond c (record { at = at; met = m } ∷ maybe m [] (λ y. stops n s ys (at + y .size))) []) ≡ none

@@ -16,7 +16,7 @@ use Rattle.model.specs.Refusals.{objectRefusal}
 use Rattle.stream.specs.Stream.{byteAt}
 use Rattle.object.specs.View.{objectIn}
 use Rattle.catalogue_numbers.specs.Fits.{FunctionFits}
-use Rattle.catalogue_numbers.specs.Numbers.{functionAt, functionNumbers, functions-by}
+use Rattle.catalogue_numbers.specs.Numbers.{functionByNumber, functionNumbers, functions-by}
 use Rattle.accepted_numbers.specs.Numbers.{functions-fit}
 use Rattle.records.specs.Readable.{Readable}
 use Rattle.records.specs.View.{gapOf}
@@ -193,7 +193,7 @@ module _ (d t : List ℕ) (v : View) (r : Readable d t v) (ok : objectRefusal (o
       let ns = functionNumbers d t v in
       let whole = take-length ns in
       let fit : AllFit d t v ns (length ns) = all-front (FunctionFits d t v) (length ns) ns (le-refl (length ns)) (rw whole (functions-fit d t v ok r)) in
-      rw (functions-by d t v r, ← ap (map (functionAt d t v)) whole) (all-encoded d t v small ns (length ns) fit)
+      rw (functions-by d t v r, ← ap (map (functionByNumber d t v)) whole) (all-encoded d t v small ns (length ns) fit)
 
 pub long-done : (o : Object) (ps : List Patch) (on : Bool) (c : Catalogue) → length (bytesOf (finish o ps on c)) ≡ length (bytesOf c)
 long-done o ps on c = bytes-long c (finish o ps on c) (alike-finish o ps on c)

@@ -11,7 +11,7 @@ use Rattle.object_view.specs.declared.View.{View}
 use Rattle.model.specs.Bytes.{each, part}
 use Rattle.model.specs.Instruction.{instructions}
 use Rattle.insn.specs.Sanitized.{sanitized, sanitized-on, sanitized-off, sanitized-join, length-slots, length-each-eight}
-use Rattle.catalogue_numbers.specs.Numbers.{functionAt}
+use Rattle.catalogue_numbers.specs.Numbers.{functionByNumber}
 use Rattle.bytes_code.specs.Code.{codeAt}
 
 -- of a list t, whose bytes from start on are the code of functions: what is left once it is rewritten
@@ -31,7 +31,7 @@ module _ (d t : List ℕ) (v : View) where
   code-eights [] = record { count = 0; is = refl }
   code-eights (j ∷ ns) =
       let e = code-eights ns in
-      let c = functionAt d t v j .code in
+      let c = functionByNumber d t v j .code in
       record {
         count = length c + e .count;
         is = length-append (codeAt d t v j) (each (codeAt d t v) ns) ∙ (λ i. length-each-eight c i + e .is i) ∙ omega arith;

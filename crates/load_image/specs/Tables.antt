@@ -12,7 +12,7 @@ use Rattle.model.specs.Refusals.{objectRefusal}
 use Rattle.lists.specs.Tab.{rows}
 use Rattle.catalogue_laws.specs.Placed.{length-joined}
 use Rattle.object.specs.View.{objectIn}
-use Rattle.catalogue_numbers.specs.Numbers.{entryAt, programAt, functionAt, mapAt, relocationsFrom, sectionNumbers, programNumbers, functionNumbers, mapNumbers, sections-by, programs-by, functions-by, maps-by, relocations-by}
+use Rattle.catalogue_numbers.specs.Numbers.{sectionEntryAt, programByNumber, functionByNumber, mapAt, relocationsFrom, sectionNumbers, programNumbers, functionNumbers, mapNumbers, sections-by, programs-by, functions-by, maps-by, relocations-by}
 use Rattle.accepted_numbers.specs.Numbers.{named, targeted, maps-fit}
 use Rattle.records.specs.Readable.{Readable}
 use Rattle.catalogue_numbers.specs.Fits.{MapFits}
@@ -74,26 +74,26 @@ module _ (d t : List ℕ) (v : View) where
 
     module _ (e : take n order ≡ sectionNumbers d t v) where
       pub count-sections : length (c .sections) ≡ n
-      count-sections = counted (entryAt d t v) (c .sections) (sectionNumbers d t v) e (sections-by d t v)
+      count-sections = counted (sectionEntryAt d t v) (c .sections) (sectionNumbers d t v) e (sections-by d t v)
 
-      pub rows-of-sections : joined (placed sectionName nothing sectionRow (sectionsAt c) 0 (map (entryAt d t v) (take n order))) ≡ imageOf c .sections
+      pub rows-of-sections : joined (placed sectionName nothing sectionRow (sectionsAt c) 0 (map (sectionEntryAt d t v) (take n order))) ≡ imageOf c .sections
       unfolding imageOf
-      rows-of-sections = ap (λ (xs : List SectionEntry). joined (placed sectionName nothing sectionRow (sectionsAt c) 0 xs)) (ap (map (entryAt d t v)) e ∙ sym (sections-by d t v))
+      rows-of-sections = ap (λ (xs : List SectionEntry). joined (placed sectionName nothing sectionRow (sectionsAt c) 0 xs)) (ap (map (sectionEntryAt d t v)) e ∙ sym (sections-by d t v))
 
     module _ (r : Readable d t v) (ok : objectRefusal (objectIn d t v) ≡ none) where
       module _ (e : take n order ≡ programNumbers d t v) where
         pub count-programs : length (c .programs) ≡ n
-        count-programs = counted (programAt d t v) (c .programs) (programNumbers d t v) e (programs-by d t v r (named d t v ok))
+        count-programs = counted (programByNumber d t v) (c .programs) (programNumbers d t v) e (programs-by d t v r (named d t v ok))
 
-        pub rows-of-programs : joined (placed programName nothing programRow (programsAt c) 0 (map (programAt d t v) (take n order))) ≡ imageOf c .programs
+        pub rows-of-programs : joined (placed programName nothing programRow (programsAt c) 0 (map (programByNumber d t v) (take n order))) ≡ imageOf c .programs
         unfolding imageOf
         rows-of-programs =
             ap (λ (xs : List Program). joined (placed programName nothing programRow (programsAt c) 0 xs))
-            (ap (map (programAt d t v)) e ∙ sym (programs-by d t v r (named d t v ok)))
+            (ap (map (programByNumber d t v)) e ∙ sym (programs-by d t v r (named d t v ok)))
 
       module _ (e : take n order ≡ functionNumbers d t v) where
         pub count-functions : length (c .functions) ≡ n
-        count-functions = counted (functionAt d t v) (c .functions) (functionNumbers d t v) e (functions-by d t v r)
+        count-functions = counted (functionByNumber d t v) (c .functions) (functionNumbers d t v) e (functions-by d t v r)
 
       module _ (e : take n order ≡ mapNumbers d t v) where
         pub maps-are : map (mapAt d t v) (take n order) ≡ c .maps
@@ -124,18 +124,18 @@ module _ (d t : List ℕ) (v : View) (n : ℕ) (order : List ℕ) (in-order : n 
   k = catalogue d t v
 
   pub sections-filled : (at : ℕ) → take n order ≡ sectionNumbers d t v → at ≡ sectionsAt k → n * 4 ≤ length lent
-      → clearedFrom (joined (placed sectionName nothing sectionRow at 0 (map (entryAt d t v) (take n order))) ++ drop (n * 4) lent) (n * 4) ≡ filled 0 (length lent) (imageOf k .sections)
+      → clearedFrom (joined (placed sectionName nothing sectionRow at 0 (map (sectionEntryAt d t v) (take n order))) ++ drop (n * 4) lent) (n * 4) ≡ filled 0 (length lent) (imageOf k .sections)
   sections-filled at e f room =
       stored _ (imageOf k .sections) lent (n * 4)
-      (ap (λ (a : ℕ). joined (placed sectionName nothing sectionRow a 0 (map (entryAt d t v) (take n order)))) f ∙ rows-of-sections d t v n order in-order e)
+      (ap (λ (a : ℕ). joined (placed sectionName nothing sectionRow a 0 (map (sectionEntryAt d t v) (take n order)))) f ∙ rows-of-sections d t v n order in-order e)
       (long-sections k ∙ ap (λ (m : ℕ). m * 4) (count-sections d t v n order in-order e)) room
 
   module _ (r : Readable d t v) (ok : objectRefusal (objectIn d t v) ≡ none) where
     pub programs-filled : (at : ℕ) → take n order ≡ programNumbers d t v → at ≡ programsAt k → n * 7 ≤ length lent
-        → clearedFrom (joined (placed programName nothing programRow at 0 (map (programAt d t v) (take n order))) ++ drop (n * 7) lent) (n * 7) ≡ filled 0 (length lent) (imageOf k .programs)
+        → clearedFrom (joined (placed programName nothing programRow at 0 (map (programByNumber d t v) (take n order))) ++ drop (n * 7) lent) (n * 7) ≡ filled 0 (length lent) (imageOf k .programs)
     programs-filled at e f room =
         stored _ (imageOf k .programs) lent (n * 7)
-        (ap (λ (a : ℕ). joined (placed programName nothing programRow a 0 (map (programAt d t v) (take n order)))) f ∙ rows-of-programs d t v n order in-order r ok e)
+        (ap (λ (a : ℕ). joined (placed programName nothing programRow a 0 (map (programByNumber d t v) (take n order)))) f ∙ rows-of-programs d t v n order in-order r ok e)
         (long-programs k ∙ ap (λ (m : ℕ). m * 7) (count-programs d t v n order in-order r ok e)) room
 
     -- each number is one of the object's

@@ -20,7 +20,7 @@ use Rattle.model.specs.Refusals.{objectRefusal, patchRefusal}
 use Rattle.object.specs.View.{objectIn}
 use Rattle.object_view.specs.declared.Form.{Form}
 use Rattle.object_view.specs.declared.View.{View}
-use Rattle.catalogue_numbers.specs.Numbers.{functionAt, functions-by, sectionNumbers, programNumbers, functionNumbers, mapNumbers}
+use Rattle.catalogue_numbers.specs.Numbers.{functionByNumber, functions-by, sectionNumbers, programNumbers, functionNumbers, mapNumbers}
 use Rattle.records.specs.Readable.{Readable}
 use Rattle.bytes_layout.specs.Held.{Held, parts-inside}
 use Rattle.bytes_layout.specs.Parts.{catalogue}
@@ -224,9 +224,9 @@ module _ (d t : List ℕ) (v : View) (room : Room) (plan : Plan) (s p f m : List
         stored = laid ∙ ap (λ (x : List ℕ). imageOf c .relocations ++ x) (sym (ap (drop (plan .relocations * 4)) laid ∙ drop-at (imageOf c .relocations) (drop (plan .relocations * 4) out₀) (plan .relocations * 4) l));
       }
 
-  functions-are : (rest : List ℕ) → map (functionAt d t v) (take (plan .counts .functions) (f ++ rest)) ≡ catalogue d t v .functions
+  functions-are : (rest : List ℕ) → map (functionByNumber d t v) (take (plan .counts .functions) (f ++ rest)) ≡ catalogue d t v .functions
   functions-are rest =
-      ap (map (functionAt d t v)) (take-append-le (plan .counts .functions) f rest (g .held .functions-in) ∙ g .held .functions) ∙ sym (functions-by d t v readable)
+      ap (map (functionByNumber d t v)) (take-append-le (plan .counts .functions) f rest (g .held .functions-in) ∙ g .held .functions) ∙ sym (functions-by d t v readable)
 
   rows-of : (rest : List ℕ) → rowsMade d t (f ++ rest) 0 (acceptedBy v plan .rows) (room .functions) ≡ filledTo room (imageOf (catalogue d t v)) .functions
   unfolding filledTo
@@ -239,8 +239,8 @@ module _ (d t : List ℕ) (v : View) (room : Room) (plan : Plan) (s p f m : List
       let long : n ≤ length (f ++ rest) = rw length-append (omega arith) in
       let cf = count-functions d t v n f w readable (g .ok) (g .held .functions) in
       let room-for : n ≤ room .functions = rw cf at (spacious c room (g .fit) .functions) in
-      let names : plan .places .functions + length (each functionName (map (functionAt d t v) (take n (f ++ rest)))) < 2 ^ 64 = rw e (omega (arith, g .at .functions, g .at .small, i .functions)) in
-      let code : plan .places .code + length (each functionCode (map (functionAt d t v) (take n (f ++ rest)))) < 2 ^ 64 = rw e (omega (arith, g .at .code, g .at .small, i .code)) in
+      let names : plan .places .functions + length (each functionName (map (functionByNumber d t v) (take n (f ++ rest)))) < 2 ^ 64 = rw e (omega (arith, g .at .functions, g .at .small, i .functions)) in
+      let code : plan .places .code + length (each functionCode (map (functionByNumber d t v) (take n (f ++ rest)))) < 2 ^ 64 = rw e (omega (arith, g .at .code, g .at .small, i .code)) in
       rows-are d t v (f ++ rest) n long (room .functions) (plan .places .functions) (plan .places .code) room-for names code
       ∙ ap (filled zeroRow (room .functions)) (ap (placed functionName functionCode functionRow (plan .places .functions) (plan .places .code)) e ∙ image-functions)
     where

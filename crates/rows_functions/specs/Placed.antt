@@ -22,8 +22,8 @@ use Rattle.insn.specs.Sanitized.{length-each-eight}
 use Rattle.object_view.specs.declared.View.{View}
 use Rattle.records.specs.View.{gapOf, symbolAt}
 use Rattle.object.specs.View.{sectionFrom, symbolFrom}
-use Rattle.catalogue_numbers.specs.Function.{sectionOf, startOf, function-is}
-use Rattle.catalogue_numbers.specs.Numbers.{functionAt as functionBy}
+use Rattle.catalogue_numbers.specs.Function.{sectionOfFunction, startOf, function-is}
+use Rattle.catalogue_numbers.specs.Numbers.{functionByNumber as functionBy}
 use Rattle.rows_functions.specs.declared.Rows.{Rows}
 use Rattle.rows_functions.specs.Rows.{codeLength, rowMade, madeOf, rowsMade, made-row}
 use Rattle.rows_functions.specs.Stored.{rows-past}
@@ -57,7 +57,7 @@ module _ (d t : List ℕ) (v : View) where
     y = symbolAt d t v j
 
     abbrev s : SectionRecord
-    s = sectionOf d t v j
+    s = sectionOfFunction d t v j
 
     abbrev plain : Function
     plain = functionAt (sectionFrom d t v s) (y .address) (startOf d t v j) (symbolFrom d t v y)

@@ -13,7 +13,7 @@ use Rattle.model.specs.Symbols.{top}
 use Rattle.records.specs.View.{symbolAt}
 use Rattle.records.specs.Readable.{Readable}
 use Rattle.object.specs.Offset.{codeOffset}
-use Rattle.catalogue_numbers.specs.Function.{sectionOf, startOf}
+use Rattle.catalogue_numbers.specs.Function.{sectionOfFunction, startOf}
 use Rattle.rows_functions.specs.declared.Made.{Made}
 use Rattle.rows_functions.specs.declared.Rows.{Rows}
 
@@ -29,7 +29,7 @@ codeLength y = y .size / 8 * 8
 unfoldable pub rowMade : List ℕ → List ℕ → ℕ → Rows → Made
 rowMade d t j rows =
     let y : SymbolRecord = symbolAt d t (rows .view) j in
-    let s : SectionRecord = sectionOf d t (rows .view) j in
+    let s : SectionRecord = sectionOfFunction d t (rows .view) j in
     record {
       row =
           record {
@@ -50,7 +50,7 @@ rowMade d t j rows =
 
 -- by what was read: the symbol, its section and the lengths
 pub row-made : (d t : List ℕ) (j : ℕ) (rows : Rows) (y : SymbolRecord) (s : SectionRecord) (o l n c : ℕ)
-    → y ≡ symbolAt d t (rows .view) j → s ≡ sectionOf d t (rows .view) j → o ≡ codeOffset d t (rows .view) s y
+    → y ≡ symbolAt d t (rows .view) j → s ≡ sectionOfFunction d t (rows .view) j → o ≡ codeOffset d t (rows .view) s y
     → l ≡ y .name .length → n ≡ min (rows .name + l) top → c ≡ min (rows .code + codeLength y) top
     → record {
       row = record { section = s .index; address = y .address; offset = o; name = range (rows .name) l; code = range (rows .code) (codeLength y) };

@@ -17,7 +17,7 @@ use Rattle.stream.specs.Stream.{length-bytes}
 use Rattle.records.specs.View.{nameIn, sectionAt, symbolAt}
 use Rattle.catalogue_laws.specs.Placed.{each-longer, rowAt, placed-sets}
 use Rattle.object.specs.View.{sectionFrom, symbolFrom}
-use Rattle.catalogue_numbers.specs.Numbers.{homeAt, programAt}
+use Rattle.catalogue_numbers.specs.Numbers.{homeAt, programByNumber}
 use Rattle.program_section.specs.declared.Variant.{Variant}
 use Rattle.program_section.specs.Found.{variantShown}
 use Rattle.rows_programs.specs.declared.Row.{Row}
@@ -47,21 +47,21 @@ row-length a b p = refl
 module _ (d t : List ℕ) (v : View) where
   -- their names lie one after the other from `at` on
   abbrev pub programRows : ℕ → List ℕ → List ℕ
-  programRows at js = joined (placed programName nothing programRow at 0 (map (programAt d t v) js))
+  programRows at js = joined (placed programName nothing programRow at 0 (map (programByNumber d t v) js))
 
   abbrev pub programNameIn : ℕ → List ℕ
-  programNameIn j = programName (programAt d t v j)
+  programNameIn j = programName (programByNumber d t v j)
 
   -- the row of a symbol, by its record and that of its section
   pub row-is : (j : ℕ) (y : SymbolRecord) (s : SectionRecord) (w : Variant) (r : Row) → y ≡ symbolAt d t v j → s ≡ sectionAt d t v (homeAt d t v j)
       → w ≡ variantShown (nameIn d v (s .name))
       → r ≡ record { length = y .name .length; number = w .number; first = w .first; second = w .second; section = s .index .0; address = y .address }
-      → r ≡ programRowOf (programAt d t v j)
+      → r ≡ programRowOf (programByNumber d t v j)
   unfolding programRowOf programOfSymbol sectionFrom symbolFrom
   row-is j y s w r ey es ew er = er ∙ rw (ew, es, ey, length-bytes)
 
   -- the row of the next number
-  module _ (order : List ℕ) (at k place : ℕ) (r : Row) (read : r ≡ programRowOf (programAt d t v (getD order k 0))) (before : place ≡ at + length (each programNameIn (take k order))) where
+  module _ (order : List ℕ) (at k place : ℕ) (r : Row) (read : r ≡ programRowOf (programByNumber d t v (getD order k 0))) (before : place ≡ at + length (each programNameIn (take k order))) where
     -- where the name behind it lies
     pub place-next : k < length order → place + r .length ≡ at + length (each programNameIn (take (k + 1) order))
     unfolding programRowOf
@@ -71,12 +71,12 @@ module _ (d t : List ℕ) (v : View) where
     pub rows-more : (out₀ out : List ℕ) → k < length order → k * 7 + 7 ≤ length out₀ → out ≡ programRows at (take k order) ++ drop (k * 7) out₀
         → sets out (k * 7) (numbers place r) ≡ programRows at (take (k + 1) order) ++ drop ((k + 1) * 7) out₀
     rows-more out₀ out l room q =
-        let row : List ℕ = rowAt programName nothing programRow (programAt d t v) order at 0 k in
+        let row : List ℕ = rowAt programName nothing programRow (programByNumber d t v) order at 0 k in
         let a : ℕ = at + length (each programNameIn (take k order)) in
         let b : ℕ = 0 + length (each {A = ℕ} nothing (take k order)) in
         let e : numbers place r ≡ row =
-        ap (λ (x : ℕ). numbers x r) before ∙ ap (numbers a) read ∙ row-numbers a b (programAt d t v (getD order k 0))
+        ap (λ (x : ℕ). numbers x r) before ∙ ap (numbers a) read ∙ row-numbers a b (programByNumber d t v (getD order k 0))
         in
         ap (sets out (k * 7)) e
         ∙ ap (λ (x : List ℕ). sets x (k * 7) row) q
-        ∙ placed-sets programName nothing programRow (programAt d t v) order at 0 7 k out₀ row-length l room
+        ∙ placed-sets programName nothing programRow (programByNumber d t v) order at 0 7 k out₀ row-length l room

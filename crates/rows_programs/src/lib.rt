@@ -4,7 +4,7 @@ ghost use mathlib.Core.List.{[], _∷_, _++_};
 ghost use Prim.Native.Nat.{_+_, _*_, _^_, _<_, _≤_};
 ghost use lib.ListN.{length, take, drop};
 ghost use lib.Seq.{sets};
-ghost use Rattle.catalogue_numbers.specs.Numbers.{programAt};
+ghost use Rattle.catalogue_numbers.specs.Numbers.{programByNumber};
 ghost use Rattle.records.specs.Readable.{Readable};
 ghost use Rattle.rows_programs.specs.Rows.{programRowOf, programRows};
 use object_view::View;
@@ -28,7 +28,7 @@ struct Row {
 // The row of the program of symbol j.
 fn program_row(d: &[u8], t: &[u32], v: View, j: u32) -> Row
     requires { ⌜ Readable (now d) (now t) v ⌝ }
-    ensures { λ r. ⌜ (r ≡ programRowOf (programAt (now (d .entry)) (now (t .entry)) v j)) × (r .length < 2 ^ 32) ⌝ }
+    ensures { λ r. ⌜ (r ≡ programRowOf (programByNumber (now (d .entry)) (now (t .entry)) v j)) × (r .length < 2 ^ 32) ⌝ }
 {
     let m = member_at(d, t, v, j);
     let y = m.symbol;

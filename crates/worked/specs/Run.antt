@@ -20,8 +20,8 @@ use Rattle.model.specs.LicenceVersion.{hasZero, parseLicense, number, versionIn
 use Rattle.model.specs.Instruction.{signed, unsigned, instructionOf, eight, instructions, invalidProgramCode, stated, statedFor, rewrite}
 use Rattle.model.specs.Table.{put, tableOf}
 use Rattle.model.specs.Catalogue.{SectionEntry, Program, Function, Map, Relocation, Catalogue}
-use Rattle.model.specs.Symbols.{symbolsOf, isProgram, programSymbols, definedText, symbolAt, stops, walkOf, firstNamed}
-use Rattle.model.specs.Contents.{licenceOf, versionOf, sectionEntries, programAt, programsOf, functionAt, programFunction, textFunction, functionsOf, wordsOf, invalidMapDefinition, recordOf, legacyMap, dataWords, dataMap, mapsOf, relocationAt, relocationsOf, catalogueOf}
+use Rattle.model.specs.Symbols.{symbolsOf, isProgram, programSymbols, definedText, textSymbolAt, stops, walkOf, firstNamed}
+use Rattle.model.specs.Contents.{licenceOf, versionOf, sectionEntries, programAt, programsOf, functionAt, programFunction, textFunction, functionsOf, wordsOf, invalidMapDefinition, recordOf, legacyMap, dataWords, dataMap, mapsOf, relocationOf, relocationsOf, catalogueOf}
 use Rattle.model.specs.Refusals.{untargeted, relocRefusal, licenceRefusal, versionRefusal, passes, programSymbolRefusal, programRefusal, mapSymbolRefusal, mapsRefusal, sharedRefusal, stopRefusal, textRefusal, kindRefusal, sectionRefusal, objectRefusal, bearers, placeRefusal, bearerRefusal, entryRefusal, patchRefusal, refusalOf}
 use Rattle.model.specs.Patching.{patchMap, withMaps, patchMaps, patched, rewriteFunction, rewritten, Verdict, refused, accepted, finish, load}
 use Rattle.model.specs.Deposit.{weigh, checkOk, checksOk, frameOk, streamIn, streamOf, headOf, sectionRecord, symbolRecord, relocationRecord, partsFrom, partsOf, endOf, all, allZero, headOk, lengthOk, nameOk, sectionOk, symbolOk, relocationOk, risingFrom, recordsOk, streamRules, streamOk, relocOf, sectionOf, symbolKind, symbolOf, byteOrder, statedBy, objectOf, hasBtf, depositRefusal, loadDeposit}
@@ -29,7 +29,7 @@ use Rattle.model.specs.PatchList.{patchFrom, patchesOf}
 use Rattle.model.specs.ProgramNumbers.{variantOf}
 use Rattle.model.specs.Lent.{placed, sectionRow, programRow, functionRow, mapRow, relocationRow, bytesOf, sectionsAt, programsAt, functionsAt, codeStart, mapsAt, ownStart, summaryOf, imageOf, fitsIn, filledTo, zeroed, Outcome, loadOf}
 use Rattle.model.specs.declared.Room.{Room}
-use Rattle.model.specs.ReadBack.{programFrom, kindFrom, sectionFrom, programRead, functionRead, mapRead, relocationRead, readBack}
+use Rattle.model.specs.ReadBack.{programFrom, kindFrom, sectionReadBack, programRead, functionRead, mapRead, relocationRead, readBack}
 use Rattle.model.specs.Listing.{digits, line, variantName, programLine, functionLine, mapLine, catalogueText, refusalText, textOf, listingOf}
 use Rattle.worked.specs.Write.{sectionBytes, symbolBytes, sum, blocksFrom, blocks, deposit}
 
@@ -37,7 +37,7 @@ use Rattle.worked.specs.Write.{sectionBytes, symbolBytes, sum, blocksFro
 
 -- a load of a deposit, with patches and rewriting
 unfoldable pub loaded : List ℕ → List Patch → Bool → Verdict
-unfolding keep each firstIn find same startsWith before little littleBytes records fromName orProgram kindOf readings cut fits programOf fromStr hasZero parseLicense number versionIn parseVersion signed unsigned instructionOf eight instructions invalidProgramCode stated statedFor rewrite put tableOf symbolsOf isProgram programSymbols definedText symbolAt stops walkOf firstNamed licenceOf versionOf sectionEntries programAt programsOf functionAt programFunction textFunction functionsOf wordsOf invalidMapDefinition recordOf legacyMap dataWords dataMap mapsOf relocationAt relocationsOf catalogueOf untargeted relocRefusal licenceRefusal versionRefusal passes programSymbolRefusal programRefusal mapSymbolRefusal mapsRefusal sharedRefusal stopRefusal textRefusal kindRefusal sectionRefusal objectRefusal bearers placeRefusal bearerRefusal entryRefusal patchRefusal refusalOf patchMap withMaps patchMaps patched rewriteFunction rewritten finish load weigh checkOk checksOk frameOk streamIn streamOf headOf sectionRecord symbolRecord relocationRecord partsFrom partsOf endOf all allZero headOk lengthOk nameOk sectionOk symbolOk relocationOk risingFrom recordsOk streamRules streamOk relocOf sectionOf symbolKind symbolOf byteOrder statedBy objectOf hasBtf depositRefusal loadDeposit sectionBytes symbolBytes sum blocksFrom blocks deposit
+unfolding keep each firstIn find same startsWith before little littleBytes records fromName orProgram kindOf readings cut fits programOf fromStr hasZero parseLicense number versionIn parseVersion signed unsigned instructionOf eight instructions invalidProgramCode stated statedFor rewrite put tableOf symbolsOf isProgram programSymbols definedText textSymbolAt stops walkOf firstNamed licenceOf versionOf sectionEntries programAt programsOf functionAt programFunction textFunction functionsOf wordsOf invalidMapDefinition recordOf legacyMap dataWords dataMap mapsOf relocationOf relocationsOf catalogueOf untargeted relocRefusal licenceRefusal versionRefusal passes programSymbolRefusal programRefusal mapSymbolRefusal mapsRefusal sharedRefusal stopRefusal textRefusal kindRefusal sectionRefusal objectRefusal bearers placeRefusal bearerRefusal entryRefusal patchRefusal refusalOf patchMap withMaps patchMaps patched rewriteFunction rewritten finish load weigh checkOk checksOk frameOk streamIn streamOf headOf sectionRecord symbolRecord relocationRecord partsFrom partsOf endOf all allZero headOk lengthOk nameOk sectionOk symbolOk relocationOk risingFrom recordsOk streamRules streamOk relocOf sectionOf symbolKind symbolOf byteOrder statedBy objectOf hasBtf depositRefusal loadDeposit sectionBytes symbolBytes sum blocksFrom blocks deposit
 loaded d ps on = loadDeposit d ps on
 
 -- the whole call
@@ -47,7 +47,7 @@ called d es bs on room = loadOf d es bs on room
 
 -- the text that is listed
 unfoldable pub listed : Room → List ℕ → List ℕ
-unfolding called programFrom kindFrom sectionFrom programRead functionRead mapRead relocationRead readBack digits line variantName programLine functionLine mapLine catalogueText refusalText textOf listingOf
+unfolding called programFrom kindFrom sectionReadBack programRead functionRead mapRead relocationRead readBack digits line variantName programLine functionLine mapLine catalogueText refusalText textOf listingOf
 listed room d = listingOf room d
 
 abbrev pub noCatalogue : Catalogue
