@@ -1,5 +1,5 @@
 -- The records of an ELF file: section headers, symbols and relocations in the file's byte order, with what its index adds.
---   t: for section i three numbers from 3 i on, its name's length, its first relocation and how many; for symbol i its name's length; where each relocation lies.
+--   t: the length of each section's name; each section's first relocation; how many it has; the length of each symbol's name; where each relocation lies.
 use mathlib.Core.Bool.{cond, _&&_, _||_}
 use mathlib.Core.List.{List}
 use Prim.Native.Nat.{ℕ, _+_, _*_, _/_, _%_}
@@ -82,7 +82,7 @@ module _ (d : List ℕ) (v : View) where
 
 module _ (d t : List ℕ) (v : View) where
   unfoldable pub sectionNameAt : ℕ → Extent
-  sectionNameAt i = extent ((v .strings .sections + num d v (headerAt d v i) 4) % 4294967296) (indexAt t (3 * i))
+  sectionNameAt i = extent ((v .strings .sections + num d v (headerAt d v i) 4) % 4294967296) (indexAt t i)
 
   unfoldable pub symbolNameAt : ℕ → Extent
   symbolNameAt i = extent ((v .strings .symbols + num d v (entryAt d v i) 4) % 4294967296) (indexAt t (3 * v .sections + i))
@@ -105,7 +105,7 @@ module _ (d t : List ℕ) (v : View) where
         address = num d v (headerAt d v i + 16) 8;
         size = num d v (headerAt d v i + 32) 8;
         bytes = dataRange (num d v (headerAt d v i + 4) 4) (num d v (headerAt d v i + 24) 8) (num d v (headerAt d v i + 32) 8);
-        relocations = extent (indexAt t (3 * i + 1)) (indexAt t (3 * i + 2));
+        relocations = extent (indexAt t (v .sections + i)) (indexAt t (2 * v .sections + i));
       }
 
   unfoldable pub elfSymbol : ℕ → SymbolRecord

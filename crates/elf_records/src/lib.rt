@@ -64,13 +64,13 @@ fn eight_in(d: &[u8], order: Endianness, i: usize) -> u64
     }
 }
 
-fn u8_at(d: &[u8], p: usize) -> u8
+pub fn u8_at(d: &[u8], p: usize) -> u8
     ensures { λ r. ⌜ r ≡ getD (now (d .entry)) p 0 ⌝ }
 {
     if p < d.len() { d[p] } else { 0 }
 }
 
-fn u16_at(d: &[u8], order: Endianness, p: usize) -> u32
+pub fn u16_at(d: &[u8], order: Endianness, p: usize) -> u32
     requires { ⌜ p < 2 ^ 62 ⌝ }
     ensures { λ r. ⌜ r ≡ fieldAt order (now (d .entry)) p 2 ⌝ }
 {
@@ -81,7 +81,7 @@ fn u16_at(d: &[u8], order: Endianness, p: usize) -> u32
     }
 }
 
-fn u32_at(d: &[u8], order: Endianness, p: usize) -> u32
+pub fn u32_at(d: &[u8], order: Endianness, p: usize) -> u32
     requires { ⌜ p < 2 ^ 62 ⌝ }
     ensures { λ r. ⌜ r ≡ fieldAt order (now (d .entry)) p 4 ⌝ }
 {
@@ -92,7 +92,7 @@ fn u32_at(d: &[u8], order: Endianness, p: usize) -> u32
     }
 }
 
-fn u64_at(d: &[u8], order: Endianness, p: usize) -> u64
+pub fn u64_at(d: &[u8], order: Endianness, p: usize) -> u64
     requires { ⌜ p < 2 ^ 62 ⌝ }
     ensures { λ r. ⌜ r ≡ fieldAt order (now (d .entry)) p 8 ⌝ }
 {
@@ -156,7 +156,7 @@ pub fn section_name(d: &[u8], t: &[u32], v: View, i: u32) -> Extent
     let p = size(v.at.sections) + 64 * size(i);
     Extent {
         at: sum(v.strings.sections, u32_at(d, order, p)),
-        length: index_at(t, 3 * size(i)),
+        length: index_at(t, size(i)),
     }
 }
 
@@ -178,8 +178,8 @@ pub fn section(d: &[u8], t: &[u32], v: View, i: u32) -> SectionRecord
         size: n,
         bytes: data_range(sort, at, n),
         relocations: Extent {
-            at: index_at(t, 3 * size(i) + 1),
-            length: index_at(t, 3 * size(i) + 2),
+            at: index_at(t, size(v.sections) + size(i)),
+            length: index_at(t, 2 * size(v.sections) + size(i)),
         },
     }
 }

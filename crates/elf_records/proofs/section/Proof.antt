@@ -76,9 +76,6 @@ index-at-requires c κs = search needs
 size-requires-4 : tie.Need-size-requires-4
 size-requires-4 c κs = search needs
 
-mul-index-at-2 : tie.Need-mul-index-at-2
-mul-index-at-2 c = search needs
-
 add-index-at-2 : tie.Need-add-index-at-2
 add-index-at-2 c = search needs
 
@@ -88,32 +85,38 @@ index-at-requires-2 c κs = search needs
 returns : tie.Need-returns
 unfolding elfSection
 returns c =
-    let a = c .before .before .before .before .before .before .before .before .before .before .before .before .before .before .before .before .before .args in
+    let a = c .before .before .before .before .before .before .before .before .before .before .before .before .before .before .before .before .before .before .before .args in
     let d = now (a .d) in
     let v = a .v in
     let p = headerAt d v (a .i) in
-    let s = c .before .before .before .before .before .before .before .before .before .before .before .before .before .before .size .ensures .0 in
-    let s₂ = c .before .before .before .before .before .before .before .before .before .before .before .before .before .size2 .ensures .0 in
-    let sort : c .before .before .before .before .before .before .before .before .before .before .before .before .u32-at .result ≡ num d v (p + 4) 4 = c .before .before .before .before .before .before .before .before .before .before .before .before .u32-at .ensures ∙ rw (s, s₂) in
-    let flags : c .before .before .before .before .before .before .before .before .before .before .before .u64-at .result ≡ num d v (p + 8) 8 = c .before .before .before .before .before .before .before .before .before .before .before .u64-at .ensures ∙ rw (s, s₂) in
-    let at : c .before .before .before .before .before .before .before .before .before .before .u64-at2 .result ≡ num d v (p + 24) 8 = c .before .before .before .before .before .before .before .before .before .before .u64-at2 .ensures ∙ rw (s, s₂) in
-    let n : c .before .before .before .before .before .before .before .before .before .u64-at3 .result ≡ num d v (p + 32) 8 = c .before .before .before .before .before .before .before .before .before .u64-at3 .ensures ∙ rw (s, s₂) in
-    let address : c .before .before .before .before .before .u64-at4 .result ≡ num d v (p + 16) 8 = c .before .before .before .before .before .u64-at4 .ensures ∙ rw (s, s₂) in
-    let mark : c .before .before .before .before .before .before .before .mark .result ≡ markOf (num d v (p + 4) 4) (num d v (p + 8) 8) = c .before .before .before .before .before .before .before .mark .ensures ∙ rw (sort, flags) in
-    let bytes : c .before .before .before .before .data-range .result ≡ dataRange (num d v (p + 4) 4) (num d v (p + 24) 8) (num d v (p + 32) 8) =
-    c .before .before .before .before .data-range .ensures ∙ rw (sort, at, n)
+    let s = c .before .before .before .before .before .before .before .before .before .before .before .before .before .before .before .before .size .ensures .0 in
+    let s₂ = c .before .before .before .before .before .before .before .before .before .before .before .before .before .before .before .size2 .ensures .0 in
+    let sort : c .before .before .before .before .before .before .before .before .before .before .before .before .before .before .u32-at .result ≡ num d v (p + 4) 4 = c .before .before .before .before .before .before .before .before .before .before .before .before .before .before .u32-at .ensures ∙ rw (s, s₂) in
+    let flags : c .before .before .before .before .before .before .before .before .before .before .before .before .before .u64-at .result ≡ num d v (p + 8) 8 = c .before .before .before .before .before .before .before .before .before .before .before .before .before .u64-at .ensures ∙ rw (s, s₂) in
+    let at : c .before .before .before .before .before .before .before .before .before .before .before .before .u64-at2 .result ≡ num d v (p + 24) 8 = c .before .before .before .before .before .before .before .before .before .before .before .before .u64-at2 .ensures ∙ rw (s, s₂) in
+    let n : c .before .before .before .before .before .before .before .before .before .before .before .u64-at3 .result ≡ num d v (p + 32) 8 = c .before .before .before .before .before .before .before .before .before .before .before .u64-at3 .ensures ∙ rw (s, s₂) in
+    let address : c .before .before .before .before .before .before .before .u64-at4 .result ≡ num d v (p + 16) 8 = c .before .before .before .before .before .before .before .u64-at4 .ensures ∙ rw (s, s₂) in
+    let mark : c .before .before .before .before .before .before .before .before .before .mark .result ≡ markOf (num d v (p + 4) 4) (num d v (p + 8) 8) = c .before .before .before .before .before .before .before .before .before .mark .ensures ∙ rw (sort, flags) in
+    let bytes : c .before .before .before .before .before .before .data-range .result ≡ dataRange (num d v (p + 4) 4) (num d v (p + 24) 8) (num d v (p + 32) 8) =
+    c .before .before .before .before .before .before .data-range .ensures ∙ rw (sort, at, n)
     in
-    let first : c .before .before .index-at .result ≡ indexAt (now (a .t)) (3 * a .i + 1) = c .before .before .index-at .ensures ∙ rw (c .before .before .before .size3 .ensures .0) in
-    let count : c .index-at2 .result ≡ indexAt (now (a .t)) (3 * a .i + 2) = c .index-at2 .ensures ∙ rw (c .before .size4 .ensures .0) in
+    let first : c .before .before .before .index-at .result ≡ indexAt (now (a .t)) (v .sections + a .i) = c .before .before .before .index-at .ensures ∙ rw (c .before .before .before .before .before .size3 .ensures .0, c .before .before .before .before .size4 .ensures .0) in
+    let count : c .index-at2 .result ≡ indexAt (now (a .t)) (2 * v .sections + a .i) = c .index-at2 .ensures ∙ rw (c .before .before .size5 .ensures .0, c .before .size6 .ensures .0) in
     λ k. record {
-      index = c .before .before .before .before .before .before .before .before .section-index .ensures k;
+      index = c .before .before .before .before .before .before .before .before .before .before .section-index .ensures k;
       mark = mark k;
-      name = c .before .before .before .before .before .before .section-name .ensures k;
+      name = c .before .before .before .before .before .before .before .before .section-name .ensures k;
       address = address k;
       size = n k;
       bytes = bytes k;
       relocations = record { at = first k; length = count k };
     }
+
+size-requires-5 : tie.Need-size-requires-5
+size-requires-5 c κs = search needs
+
+size-requires-6 : tie.Need-size-requires-6
+size-requires-6 c κs = search needs
 
 pub section-spec : {M : Type 1} → statement M
 section-spec =
@@ -138,11 +141,12 @@ section-spec =
     u64-at-requires-4
     data-range-requires
     size-requires-3
-    mul-index-at
+    size-requires-4
     add-index-at
     index-at-requires
-    size-requires-4
-    mul-index-at-2
+    size-requires-5
+    mul-index-at
+    size-requires-6
     add-index-at-2
     index-at-requires-2
     returns)

@@ -25,9 +25,6 @@ sum-requires c κs = search needs
 size-requires-3 : tie.Need-size-requires-3
 size-requires-3 c κs = search needs
 
-mul-index-at : tie.Need-mul-index-at
-mul-index-at c = search needs
-
 index-at-requires : tie.Need-index-at-requires
 index-at-requires c κs = search needs
 
@@ -46,6 +43,5 @@ section-name-spec =
     u32-at-requires
     sum-requires
     size-requires-3
-    mul-index-at
     index-at-requires
     returns)
