@@ -30,7 +30,7 @@ pub fn index_at(t: &[u32], k: usize) -> u32
     if k < t.len() { t[k] } else { 0 }
 }
 
-fn two(d: &[u8], order: Endianness, i: usize) -> u32
+pub fn two(d: &[u8], order: Endianness, i: usize) -> u32
     requires { ⌜ i + 2 ≤ length (now d) ⌝ }
     ensures { λ r. ⌜ (r ≡ number order (part (now (d .entry)) i 2)) × (r < 65536) ⌝ }
 {
@@ -42,7 +42,7 @@ fn two(d: &[u8], order: Endianness, i: usize) -> u32
     }
 }
 
-fn four_in(d: &[u8], order: Endianness, i: usize) -> u32
+pub fn four_in(d: &[u8], order: Endianness, i: usize) -> u32
     requires { ⌜ i + 4 ≤ length (now d) ⌝ }
     ensures { λ r. ⌜ r ≡ number order (part (now (d .entry)) i 4) ⌝ }
 {
@@ -52,7 +52,7 @@ fn four_in(d: &[u8], order: Endianness, i: usize) -> u32
     }
 }
 
-fn eight_in(d: &[u8], order: Endianness, i: usize) -> u64
+pub fn eight_in(d: &[u8], order: Endianness, i: usize) -> u64
     requires { ⌜ i + 8 ≤ length (now d) ⌝ }
     ensures { λ r. ⌜ r ≡ number order (part (now (d .entry)) i 8) ⌝ }
 {
@@ -64,13 +64,13 @@ fn eight_in(d: &[u8], order: Endianness, i: usize) -> u64
     }
 }
 
-pub fn u8_at(d: &[u8], p: usize) -> u8
+fn u8_at(d: &[u8], p: usize) -> u8
     ensures { λ r. ⌜ r ≡ getD (now (d .entry)) p 0 ⌝ }
 {
     if p < d.len() { d[p] } else { 0 }
 }
 
-pub fn u16_at(d: &[u8], order: Endianness, p: usize) -> u32
+fn u16_at(d: &[u8], order: Endianness, p: usize) -> u32
     requires { ⌜ p < 2 ^ 62 ⌝ }
     ensures { λ r. ⌜ r ≡ fieldAt order (now (d .entry)) p 2 ⌝ }
 {
@@ -81,7 +81,7 @@ pub fn u16_at(d: &[u8], order: Endianness, p: usize) -> u32
     }
 }
 
-pub fn u32_at(d: &[u8], order: Endianness, p: usize) -> u32
+fn u32_at(d: &[u8], order: Endianness, p: usize) -> u32
     requires { ⌜ p < 2 ^ 62 ⌝ }
     ensures { λ r. ⌜ r ≡ fieldAt order (now (d .entry)) p 4 ⌝ }
 {
@@ -92,7 +92,7 @@ pub fn u32_at(d: &[u8], order: Endianness, p: usize) -> u32
     }
 }
 
-pub fn u64_at(d: &[u8], order: Endianness, p: usize) -> u64
+fn u64_at(d: &[u8], order: Endianness, p: usize) -> u64
     requires { ⌜ p < 2 ^ 62 ⌝ }
     ensures { λ r. ⌜ r ≡ fieldAt order (now (d .entry)) p 8 ⌝ }
 {

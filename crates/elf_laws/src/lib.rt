@@ -1,0 +1,1 @@
+// Laws of an ELF file's definitions. No code stands here.
