@@ -1,0 +1,3 @@
+-- What the contracts of `elf_header` cite.
+pub mod Headers
+pub mod Used
