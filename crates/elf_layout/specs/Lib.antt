@@ -1,0 +1,2 @@
+-- The layout of a file that can be read.
+pub mod Layout
