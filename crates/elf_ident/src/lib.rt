@@ -1,9 +1,10 @@
 // Number 25 of an ELF file's fields: each is compared as far as it is present.
 ghost use mathlib.Core.Path.{_≡_};
-ghost use Prim.Native.Nat.{_^_, _<_, _≤_};
-ghost use Rattle.model.specs.Bytes.{part};
+ghost use Prim.Native.Nat.{_+_, _^_, _<_, _≤_};
+ghost use lib.ListN.{length};
+ghost use Rattle.model.specs.Bytes.{startsWith, part};
 ghost use Rattle.model.specs.ElfRefusals.{fieldIs};
-ghost use Rattle.elf_ident.specs.FirstBytes.{byteIs, firstBytesOk};
+ghost use Rattle.elf_ident.specs.FirstBytes.{byteIs, orderMark, lowPlace, firstBytesOk};
 use model::Endianness;
 
 // A byte past the end differs from nothing.
@@ -13,19 +14,14 @@ fn byte_is(d: &[u8], p: usize, b: u8) -> bool
     if p < d.len() { d[p] == b } else { true }
 }
 
-// Tells whether the bytes from p on that are present, up to w, are those of the number x in the file's byte order.
-pub fn field_is(d: &[u8], order: Endianness, p: usize, w: usize, x: u8) -> bool
-    requires { ⌜ (p < 2 ^ 63) × (0 < w) × (w ≤ 8) ⌝ }
-    ensures { λ r. ⌜ r ≡ fieldIs order w x (part (now (d .entry)) p w) ⌝ }
+// Tells whether the bytes from p on that are present are those of s.
+fn bytes_are(d: &[u8], p: usize, s: &[u8]) -> bool
+    requires { ⌜ p + length (now s) < 2 ^ 64 ⌝ }
+    ensures { λ r. ⌜ r ≡ startsWith (part (now (d .entry)) p (length (now (s .entry)))) (now (s .entry)) ⌝ }
 {
-    let low = match order {
-        Endianness::Little => 0,
-        Endianness::Big => w - 1,
-    };
     let mut i = 0;
-    while i < w {
-        let b = if i == low { x } else { 0 };
-        if !byte_is(d, p + i, b) {
+    while i < s.len() {
+        if !byte_is(d, p + i, s[i]) {
             return false;
         }
         i += 1;
@@ -33,33 +29,43 @@ pub fn field_is(d: &[u8], order: Endianness, p: usize, w: usize, x: u8) -> bool
     true
 }
 
-// The first seven bytes, the type, the machine and the size of a section header.
+// A number's lowest byte stands first, or last of w.
+fn low_place(order: Endianness, w: usize) -> usize
+    requires { ⌜ 0 < w ⌝ }
+    ensures { λ r. ⌜ r ≡ lowPlace order w ⌝ }
+{
+    match order {
+        Endianness::Little => 0,
+        Endianness::Big => w - 1,
+    }
+}
+
+// Tells whether the bytes from p on that are present, up to w, are those of the number x in the file's byte order.
+pub fn field_is(d: &[u8], order: Endianness, p: usize, w: usize, x: u8) -> bool
+    requires { ⌜ (p < 2 ^ 63) × (0 < w) × (w ≤ 8) ⌝ }
+    ensures { λ r. ⌜ r ≡ fieldIs order w x (part (now (d .entry)) p w) ⌝ }
+{
+    let mut s = [0; 8];
+    let low = low_place(order, w);
+    s[low] = x;
+    bytes_are(d, p, &s[..w])
+}
+
+fn order_mark(order: Endianness) -> u8
+    ensures { λ r. ⌜ r ≡ orderMark order ⌝ }
+{
+    match order {
+        Endianness::Little => 1,
+        Endianness::Big => 2,
+    }
+}
+
+// Looks at the first seven bytes, the type, the machine and the size of a section header.
 pub fn first_bytes_ok(d: &[u8], order: Endianness) -> bool
     ensures { λ r. ⌜ r ≡ firstBytesOk (now (d .entry)) order ⌝ }
 {
-    let mark = match order {
-        Endianness::Little => 1,
-        Endianness::Big => 2,
-    };
-    if !byte_is(d, 0, 127) {
-        return false;
-    }
-    if !byte_is(d, 1, 69) {
-        return false;
-    }
-    if !byte_is(d, 2, 76) {
-        return false;
-    }
-    if !byte_is(d, 3, 70) {
-        return false;
-    }
-    if !byte_is(d, 4, 2) {
-        return false;
-    }
-    if !byte_is(d, 5, mark) {
-        return false;
-    }
-    if !byte_is(d, 6, 1) {
+    let seven = [127, 69, 76, 70, 2, order_mark(order), 1];
+    if !bytes_are(d, 0, &seven) {
         return false;
     }
     if !field_is(d, order, 16, 2, 1) {
