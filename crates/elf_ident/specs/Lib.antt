@@ -1,0 +1,2 @@
+-- What the contracts of `elf_ident` cite.
+pub mod FirstBytes
