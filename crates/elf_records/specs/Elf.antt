@@ -1,5 +1,5 @@
 -- The records of an ELF file: section headers, symbols and relocations in the file's byte order, with what its index adds.
---   t: the length of each section's name; each section's first relocation; how many it has; the length of each symbol's name; where each relocation lies.
+--   t: the length of each section's name; of each symbol's; each section's first relocation; how many it has; where each relocation lies.
 use mathlib.Core.Bool.{cond, _&&_, _||_}
 use mathlib.Core.List.{List}
 use Prim.Native.Nat.{ℕ, _+_, _*_, _/_, _%_}
@@ -85,7 +85,7 @@ module _ (d t : List ℕ) (v : View) where
   sectionNameAt i = extent ((v .strings .sections + num d v (headerAt d v i) 4) % 4294967296) (indexAt t i)
 
   unfoldable pub symbolNameAt : ℕ → Extent
-  symbolNameAt i = extent ((v .strings .symbols + num d v (entryAt d v i) 4) % 4294967296) (indexAt t (3 * v .sections + i))
+  symbolNameAt i = extent ((v .strings .symbols + num d v (entryAt d v i) 4) % 4294967296) (indexAt t (v .sections + i))
 
   abbrev pub placeOf : ℕ → ℕ
   placeOf k = indexAt t (3 * v .sections + v .symbols + k)
@@ -105,7 +105,7 @@ module _ (d t : List ℕ) (v : View) where
         address = num d v (headerAt d v i + 16) 8;
         size = num d v (headerAt d v i + 32) 8;
         bytes = dataRange (num d v (headerAt d v i + 4) 4) (num d v (headerAt d v i + 24) 8) (num d v (headerAt d v i + 32) 8);
-        relocations = extent (indexAt t (v .sections + i)) (indexAt t (2 * v .sections + i));
+        relocations = extent (indexAt t (v .sections + v .symbols + i)) (indexAt t (2 * v .sections + v .symbols + i));
       }
 
   unfoldable pub elfSymbol : ℕ → SymbolRecord

@@ -178,8 +178,8 @@ pub fn section(d: &[u8], t: &[u32], v: View, i: u32) -> SectionRecord
         size: n,
         bytes: data_range(sort, at, n),
         relocations: Extent {
-            at: index_at(t, size(v.sections) + size(i)),
-            length: index_at(t, 2 * size(v.sections) + size(i)),
+            at: index_at(t, size(v.sections) + size(v.symbols) + size(i)),
+            length: index_at(t, 2 * size(v.sections) + size(v.symbols) + size(i)),
         },
     }
 }
@@ -235,7 +235,7 @@ pub fn symbol_name(d: &[u8], t: &[u32], v: View, i: u32) -> Extent
     let p = size(v.at.symbols) + 24 * size(i);
     Extent {
         at: sum(v.strings.symbols, u32_at(d, order, p)),
-        length: index_at(t, 3 * size(v.sections) + size(i)),
+        length: index_at(t, size(v.sections) + size(i)),
     }
 }
 

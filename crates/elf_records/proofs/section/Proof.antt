@@ -85,27 +85,27 @@ index-at-requires-2 c κs = search needs
 returns : tie.Need-returns
 unfolding elfSection
 returns c =
-    let a = c .before .before .before .before .before .before .before .before .before .before .before .before .before .before .before .before .before .before .before .args in
+    let a = c .before .before .before .before .before .before .before .before .before .before .before .before .before .before .before .before .before .before .before .before .before .args in
     let d = now (a .d) in
     let v = a .v in
     let p = headerAt d v (a .i) in
-    let s = c .before .before .before .before .before .before .before .before .before .before .before .before .before .before .before .before .size .ensures .0 in
-    let s₂ = c .before .before .before .before .before .before .before .before .before .before .before .before .before .before .before .size2 .ensures .0 in
-    let sort : c .before .before .before .before .before .before .before .before .before .before .before .before .before .before .u32-at .result ≡ num d v (p + 4) 4 = c .before .before .before .before .before .before .before .before .before .before .before .before .before .before .u32-at .ensures ∙ rw (s, s₂) in
-    let flags : c .before .before .before .before .before .before .before .before .before .before .before .before .before .u64-at .result ≡ num d v (p + 8) 8 = c .before .before .before .before .before .before .before .before .before .before .before .before .before .u64-at .ensures ∙ rw (s, s₂) in
-    let at : c .before .before .before .before .before .before .before .before .before .before .before .before .u64-at2 .result ≡ num d v (p + 24) 8 = c .before .before .before .before .before .before .before .before .before .before .before .before .u64-at2 .ensures ∙ rw (s, s₂) in
-    let n : c .before .before .before .before .before .before .before .before .before .before .before .u64-at3 .result ≡ num d v (p + 32) 8 = c .before .before .before .before .before .before .before .before .before .before .before .u64-at3 .ensures ∙ rw (s, s₂) in
-    let address : c .before .before .before .before .before .before .before .u64-at4 .result ≡ num d v (p + 16) 8 = c .before .before .before .before .before .before .before .u64-at4 .ensures ∙ rw (s, s₂) in
-    let mark : c .before .before .before .before .before .before .before .before .before .mark .result ≡ markOf (num d v (p + 4) 4) (num d v (p + 8) 8) = c .before .before .before .before .before .before .before .before .before .mark .ensures ∙ rw (sort, flags) in
-    let bytes : c .before .before .before .before .before .before .data-range .result ≡ dataRange (num d v (p + 4) 4) (num d v (p + 24) 8) (num d v (p + 32) 8) =
-    c .before .before .before .before .before .before .data-range .ensures ∙ rw (sort, at, n)
+    let s = c .before .before .before .before .before .before .before .before .before .before .before .before .before .before .before .before .before .before .size .ensures .0 in
+    let s₂ = c .before .before .before .before .before .before .before .before .before .before .before .before .before .before .before .before .before .size2 .ensures .0 in
+    let sort : c .before .before .before .before .before .before .before .before .before .before .before .before .before .before .before .before .u32-at .result ≡ num d v (p + 4) 4 = c .before .before .before .before .before .before .before .before .before .before .before .before .before .before .before .before .u32-at .ensures ∙ rw (s, s₂) in
+    let flags : c .before .before .before .before .before .before .before .before .before .before .before .before .before .before .before .u64-at .result ≡ num d v (p + 8) 8 = c .before .before .before .before .before .before .before .before .before .before .before .before .before .before .before .u64-at .ensures ∙ rw (s, s₂) in
+    let at : c .before .before .before .before .before .before .before .before .before .before .before .before .before .before .u64-at2 .result ≡ num d v (p + 24) 8 = c .before .before .before .before .before .before .before .before .before .before .before .before .before .before .u64-at2 .ensures ∙ rw (s, s₂) in
+    let n : c .before .before .before .before .before .before .before .before .before .before .before .before .before .u64-at3 .result ≡ num d v (p + 32) 8 = c .before .before .before .before .before .before .before .before .before .before .before .before .before .u64-at3 .ensures ∙ rw (s, s₂) in
+    let address : c .before .before .before .before .before .before .before .before .before .u64-at4 .result ≡ num d v (p + 16) 8 = c .before .before .before .before .before .before .before .before .before .u64-at4 .ensures ∙ rw (s, s₂) in
+    let mark : c .before .before .before .before .before .before .before .before .before .before .before .mark .result ≡ markOf (num d v (p + 4) 4) (num d v (p + 8) 8) = c .before .before .before .before .before .before .before .before .before .before .before .mark .ensures ∙ rw (sort, flags) in
+    let bytes : c .before .before .before .before .before .before .before .before .data-range .result ≡ dataRange (num d v (p + 4) 4) (num d v (p + 24) 8) (num d v (p + 32) 8) =
+    c .before .before .before .before .before .before .before .before .data-range .ensures ∙ rw (sort, at, n)
     in
-    let first : c .before .before .before .index-at .result ≡ indexAt (now (a .t)) (v .sections + a .i) = c .before .before .before .index-at .ensures ∙ rw (c .before .before .before .before .before .size3 .ensures .0, c .before .before .before .before .size4 .ensures .0) in
-    let count : c .index-at2 .result ≡ indexAt (now (a .t)) (2 * v .sections + a .i) = c .index-at2 .ensures ∙ rw (c .before .before .size5 .ensures .0, c .before .size6 .ensures .0) in
+    let first : c .before .before .before .before .index-at .result ≡ indexAt (now (a .t)) (v .sections + v .symbols + a .i) = c .before .before .before .before .index-at .ensures ∙ rw (c .before .before .before .before .before .before .before .size3 .ensures .0, c .before .before .before .before .before .before .size4 .ensures .0, c .before .before .before .before .before .size5 .ensures .0) in
+    let count : c .index-at2 .result ≡ indexAt (now (a .t)) (2 * v .sections + v .symbols + a .i) = c .index-at2 .ensures ∙ rw (c .before .before .before .size6 .ensures .0, c .before .before .size7 .ensures .0, c .before .size8 .ensures .0) in
     λ k. record {
-      index = c .before .before .before .before .before .before .before .before .before .before .section-index .ensures k;
+      index = c .before .before .before .before .before .before .before .before .before .before .before .before .section-index .ensures k;
       mark = mark k;
-      name = c .before .before .before .before .before .before .before .before .section-name .ensures k;
+      name = c .before .before .before .before .before .before .before .before .before .before .section-name .ensures k;
       address = address k;
       size = n k;
       bytes = bytes k;
@@ -117,6 +117,18 @@ size-requires-5 c κs = search needs
 
 size-requires-6 : tie.Need-size-requires-6
 size-requires-6 c κs = search needs
+
+size-requires-7 : tie.Need-size-requires-7
+size-requires-7 c κs = search needs
+
+add-index-at-3 : tie.Need-add-index-at-3
+add-index-at-3 c = search needs
+
+size-requires-8 : tie.Need-size-requires-8
+size-requires-8 c κs = search needs
+
+add-index-at-4 : tie.Need-add-index-at-4
+add-index-at-4 c = search needs
 
 pub section-spec : {M : Type 1} → statement M
 section-spec =
@@ -143,10 +155,14 @@ section-spec =
     size-requires-3
     size-requires-4
     add-index-at
-    index-at-requires
     size-requires-5
-    mul-index-at
-    size-requires-6
     add-index-at-2
+    index-at-requires
+    size-requires-6
+    mul-index-at
+    size-requires-7
+    add-index-at-3
+    size-requires-8
+    add-index-at-4
     index-at-requires-2
     returns)

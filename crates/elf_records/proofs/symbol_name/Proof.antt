@@ -25,9 +25,6 @@ sum-requires c κs = search needs
 size-requires-3 : tie.Need-size-requires-3
 size-requires-3 c κs = search needs
 
-mul-index-at : tie.Need-mul-index-at
-mul-index-at c = search needs
-
 size-requires-4 : tie.Need-size-requires-4
 size-requires-4 c κs = search needs
 
@@ -52,7 +49,6 @@ symbol-name-spec =
     u32-at-requires
     sum-requires
     size-requires-3
-    mul-index-at
     size-requires-4
     add-index-at
     index-at-requires
