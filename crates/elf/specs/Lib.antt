@@ -1,0 +1,3 @@
+-- What the contracts of `elf` cite.
+pub mod Opened
+pub mod Btf

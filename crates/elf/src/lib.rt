@@ -1,0 +1,70 @@
+// A file that was checked is opened: its names and relocations are indexed, and number 3.
+ghost use mathlib.Core.Path.{_≡_};
+ghost use Prim.Native.Nat.{_+_, _*_, _≤_};
+ghost use lib.ListN.{length};
+ghost use Rattle.model.specs.Deposit.{hasBtf};
+ghost use Rattle.object.specs.View.{sectionIn, objectIn};
+ghost use Rattle.elf_layout.specs.Layout.{fileRefusal};
+ghost use Rattle.elf.specs.Opened.{indexLength};
+ghost use Rattle.elf.specs.Btf.{namedBtf};
+use elf_layout::FileCheck;
+use model::Refusal;
+use model::SectionIndex;
+use model::SymbolIndex;
+use names::same;
+use object_view::View;
+use records::Cursor;
+use records::Step;
+use records::gap;
+use records::name_at;
+use records::section_name;
+use stream::size;
+
+fn refusal(number: u32) -> Refusal
+    ensures { λ r. ⌜ r ≡ fileRefusal number ⌝ }
+{
+    Refusal {
+        number,
+        section: SectionIndex(0),
+        symbol: SymbolIndex(0),
+        entry: 0,
+    }
+}
+
+fn is_btf(d: &[u8], t: &[u32], v: View, i: u32) -> bool
+    ensures { λ r. ⌜ r ≡ namedBtf (sectionIn (now (d .entry)) (now (t .entry)) v i) ⌝ }
+{
+    let e = section_name(d, t, v, i);
+    let word = [46u8, 66, 84, 70];
+    same(d, gap(v), name_at(v, e), size(e.length), &word)
+}
+
+// Tells whether a section is named `.BTF`.
+fn has_btf(d: &[u8], t: &[u32], v: View) -> bool
+    ensures { λ r. ⌜ r ≡ hasBtf (objectIn (now (d .entry)) (now (t .entry)) v) ⌝ }
+{
+    let mut c = Cursor::new(v.sections);
+    loop {
+        match c.next() {
+            Step::Record(i, next) => {
+                if is_btf(d, t, v, i) {
+                    return true;
+                }
+                c = next;
+            }
+            Step::End => {
+                return false;
+            }
+        }
+    }
+}
+
+// How many numbers the index of a file has.
+pub fn index_length(checked: FileCheck) -> usize
+    ensures { λ r. ⌜ r ≡ indexLength checked ⌝ }
+{
+    match checked {
+        FileCheck::Refused(_) => 0,
+        FileCheck::Layout(l) => 3 * size(l.view.sections) + size(l.view.symbols) + size(l.view.relocations),
+    }
+}
