@@ -1,4 +1,12 @@
-use Prim.Native.Nat.{ℕ, _<_}
+-- `elf_names::long_lengths` meets its contract: with a memo of zeros nothing is known yet; with one that has numbers no name is too long.
+use denote.Ref.{now}
+use mathlib.Core.Path.{sym}
+use Prim.Native.Nat.{ℕ, _-_, _<_}
+use native.Mathlib.Omega.{arith}
+use lib.ListN.{length}
+use Rattle.lists.specs.Tests.{true-not-false}
+use Rattle.elf_names.specs.Memo.{memo-zeros}
+use borrow.Author.Needs.{needs}
 use borrow.Fn.Kinds.{In}
 use borrow.Fn.PlainCycle.{Measures, is, falls, and}
 use Rattle.elf_names.proofs.long_lengths.Reads as long-lengths
@@ -9,7 +17,7 @@ use Rattle.elf_names.proofs.+long_lengths.{statement}
 use Rattle.elf_names.proofs.+long_lengths.Tie.{close}
 
 abbrev μ-long-lengths : Measures 3 long-lengths-kinds.ps ℕ
-μ-long-lengths κs a = ?
+μ-long-lengths κs a = 1 - length (a .1 .1 .1 .1 .1 .1 .1 .0 .now)
 
 abbrev long-lengths-at : ℕ → In 3 long-lengths-kinds.ps
 long-lengths-at t =
@@ -31,7 +39,7 @@ long-lengths-slice-aggregate-long-lengths :
       survey-reads.Asked,
       survey-reads.Learnt,
     ) (long-lengths-at t) long-lengths.Post
-long-lengths-slice-aggregate-long-lengths t c = ?
+long-lengths-slice-aggregate-long-lengths t c = search needs
 
 -- src/lib.rt:213:9
 long-lengths-long-lengths-requires : (t : ℕ) → long-lengths-lts.Need-long-lengths-requires (
@@ -40,7 +48,11 @@ long-lengths-long-lengths-requires : (t : ℕ) → long-lengths-lts.Need-long-le
   survey-reads.Asked,
   survey-reads.Learnt,
 ) (long-lengths-at t) long-lengths.Post
-long-lengths-long-lengths-requires t c κs = ?
+long-lengths-long-lengths-requires t c κs =
+    let z = c .before .before .before .before .before .before in
+    let p = z .pre .1 in
+    let a = z .args in
+    (omega (arith, z .pre .0), (p .0, p .1, p .2, p .3, p .4, memo-zeros (now (a .d)) (a .strings) (a .end) 16384))
 
 -- src/lib.rt:213:9
 long-lengths-same-length : (t : ℕ) → long-lengths-lts.Need-same-length (
@@ -49,7 +61,7 @@ long-lengths-same-length : (t : ℕ) → long-lengths-lts.Need-same-length (
   survey-reads.Asked,
   survey-reads.Learnt,
 ) (long-lengths-at t) long-lengths.Post
-long-lengths-same-length t c = ?
+long-lengths-same-length t c = search needs
 
 -- src/lib.rt:213:9
 long-lengths-returns : (t : ℕ) → long-lengths-lts.Need-returns (
@@ -58,7 +70,7 @@ long-lengths-returns : (t : ℕ) → long-lengths-lts.Need-returns (
   survey-reads.Asked,
   survey-reads.Learnt,
 ) (long-lengths-at t) long-lengths.Post
-long-lengths-returns t c = ?
+long-lengths-returns t c = c .before .before .before .long-lengths .ensures
 
 -- src/lib.rt:215:11
 long-lengths-survey-requires : (t : ℕ) → long-lengths-lts.Need-survey-requires (
@@ -67,7 +79,7 @@ long-lengths-survey-requires : (t : ℕ) → long-lengths-lts.Need-survey-requir
   survey-reads.Asked,
   survey-reads.Learnt,
 ) (long-lengths-at t) long-lengths.Post
-long-lengths-survey-requires t c κs = ?
+long-lengths-survey-requires t c κs = search needs
 
 -- src/lib.rt:216:27
 long-lengths-enum-told : (t : ℕ) → long-lengths-lts.Need-enum-told (
@@ -76,7 +88,7 @@ long-lengths-enum-told : (t : ℕ) → long-lengths-lts.Need-enum-told (
   survey-reads.Asked,
   survey-reads.Learnt,
 ) (long-lengths-at t) long-lengths.Post
-long-lengths-enum-told t c = ?
+long-lengths-enum-told t c = search needs
 
 -- src/lib.rt:217:29
 long-lengths-enum-told-2 : (t : ℕ) → long-lengths-lts.Need-enum-told-2 (
@@ -85,7 +97,7 @@ long-lengths-enum-told-2 : (t : ℕ) → long-lengths-lts.Need-enum-told-2 (
   survey-reads.Asked,
   survey-reads.Learnt,
 ) (long-lengths-at t) long-lengths.Post
-long-lengths-enum-told-2 t c = ?
+long-lengths-enum-told-2 t c = search needs
 
 -- src/lib.rt:218:27
 long-lengths-enum-told-3 : (t : ℕ) → long-lengths-lts.Need-enum-told-3 (
@@ -94,7 +106,7 @@ long-lengths-enum-told-3 : (t : ℕ) → long-lengths-lts.Need-enum-told-3 (
   survey-reads.Asked,
   survey-reads.Learnt,
 ) (long-lengths-at t) long-lengths.Post
-long-lengths-enum-told-3 t c = ?
+long-lengths-enum-told-3 t c = search needs
 
 -- src/lib.rt:196:1
 long-lengths-same-length-2 : (t : ℕ) → long-lengths-lts.Need-same-length-2 (
@@ -103,7 +115,7 @@ long-lengths-same-length-2 : (t : ℕ) → long-lengths-lts.Need-same-length-2 (
   survey-reads.Asked,
   survey-reads.Learnt,
 ) (long-lengths-at t) long-lengths.Post
-long-lengths-same-length-2 t c = ?
+long-lengths-same-length-2 t c = search needs
 
 -- src/lib.rt:196:1
 long-lengths-same-length-3 : (t : ℕ) → long-lengths-lts.Need-same-length-3 (
@@ -112,7 +124,7 @@ long-lengths-same-length-3 : (t : ℕ) → long-lengths-lts.Need-same-length-3 (
   survey-reads.Asked,
   survey-reads.Learnt,
 ) (long-lengths-at t) long-lengths.Post
-long-lengths-same-length-3 t c = ?
+long-lengths-same-length-3 t c = search needs
 
 -- src/lib.rt:196:1
 long-lengths-returns-2 : (t : ℕ) → long-lengths-lts.Need-returns-2 (
@@ -121,7 +133,8 @@ long-lengths-returns-2 : (t : ℕ) → long-lengths-lts.Need-returns-2 (
   survey-reads.Asked,
   survey-reads.Learnt,
 ) (long-lengths-at t) long-lengths.Post
-long-lengths-returns-2 t c = ?
+long-lengths-returns-2 t c =
+    let e = rw (c .enum-told .given .1) at (c .before .before .before .before .before .before .survey .ensures) in (sym (e .0), λ h. e .1)
 
 -- src/lib.rt:196:1
 long-lengths-same-length-4 : (t : ℕ) → long-lengths-lts.Need-same-length-4 (
@@ -130,7 +143,7 @@ long-lengths-same-length-4 : (t : ℕ) → long-lengths-lts.Need-same-length-4 (
   survey-reads.Asked,
   survey-reads.Learnt,
 ) (long-lengths-at t) long-lengths.Post
-long-lengths-same-length-4 t c = ?
+long-lengths-same-length-4 t c = search needs
 
 -- src/lib.rt:196:1
 long-lengths-same-length-5 : (t : ℕ) → long-lengths-lts.Need-same-length-5 (
@@ -139,7 +152,7 @@ long-lengths-same-length-5 : (t : ℕ) → long-lengths-lts.Need-same-length-5 (
   survey-reads.Asked,
   survey-reads.Learnt,
 ) (long-lengths-at t) long-lengths.Post
-long-lengths-same-length-5 t c = ?
+long-lengths-same-length-5 t c = search needs
 
 -- src/lib.rt:196:1
 long-lengths-returns-3 : (t : ℕ) → long-lengths-lts.Need-returns-3 (
@@ -148,7 +161,8 @@ long-lengths-returns-3 : (t : ℕ) → long-lengths-lts.Need-returns-3 (
   survey-reads.Asked,
   survey-reads.Learnt,
 ) (long-lengths-at t) long-lengths.Post
-long-lengths-returns-3 t c = ?
+long-lengths-returns-3 t c =
+    let e = rw (c .enum-told2 .given .1) at (c .before .before .before .before .before .before .survey .ensures) in (sym e, λ h. true-not-false (sym h))
 
 -- src/lib.rt:196:1
 long-lengths-same-length-6 : (t : ℕ) → long-lengths-lts.Need-same-length-6 (
@@ -157,7 +171,7 @@ long-lengths-same-length-6 : (t : ℕ) → long-lengths-lts.Need-same-length-6 (
   survey-reads.Asked,
   survey-reads.Learnt,
 ) (long-lengths-at t) long-lengths.Post
-long-lengths-same-length-6 t c = ?
+long-lengths-same-length-6 t c = search needs
 
 -- src/lib.rt:196:1
 long-lengths-same-length-7 : (t : ℕ) → long-lengths-lts.Need-same-length-7 (
@@ -166,7 +180,7 @@ long-lengths-same-length-7 : (t : ℕ) → long-lengths-lts.Need-same-length-7 (
   survey-reads.Asked,
   survey-reads.Learnt,
 ) (long-lengths-at t) long-lengths.Post
-long-lengths-same-length-7 t c = ?
+long-lengths-same-length-7 t c = search needs
 
 -- src/lib.rt:196:1
 long-lengths-returns-4 : (t : ℕ) → long-lengths-lts.Need-returns-4 (
@@ -175,7 +189,10 @@ long-lengths-returns-4 : (t : ℕ) → long-lengths-lts.Need-returns-4 (
   survey-reads.Asked,
   survey-reads.Learnt,
 ) (long-lengths-at t) long-lengths.Post
-long-lengths-returns-4 t c = ?
+long-lengths-returns-4 t c =
+    let e = rw (c .enum-told3 .given .1) at (c .before .before .before .before .before .before .survey .ensures) in
+    let no : ⊥ = omega arith in
+    absurd no
 
 pub +long-lengths-spec : {M : Type 1} → statement M
 +long-lengths-spec = close μ-long-lengths λ t. long-lengths-lts.spec (
