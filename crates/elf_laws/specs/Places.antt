@@ -7,7 +7,7 @@ use native.Mathlib.Nat.{not-suc-le-zero, le-of-suc-le-suc, mul-zero, mul-suc, ad
 use native.Mathlib.Omega.{arith}
 use lib.Dec.{eqb·suc-zero}
 use lib.ListN.{length, getD, take, drop, length-take}
-use lib.Seq.{drop-drop, take-take, take-nil}
+use lib.Seq.{slice, drop-drop, take-take, take-nil}
 use Rattle.lists.specs.Tab.{tab, is-tab}
 use Rattle.lists.specs.Tests.{true-not-false}
 use Rattle.model.specs.declared.Endianness.{Endianness}
@@ -96,6 +96,10 @@ drop-take zero n l = ap (λ (m : ℕ). take m l) (sym (sub-zero n))
 drop-take (suc k) zero l = ap (λ (m : ℕ). take m (drop (suc k) l)) (sym (zero-sub (suc k)))
 drop-take (suc k) (suc n) [] = sym (take-nil (suc n - suc k))
 drop-take (suc k) (suc n) (x ∷ l) = drop-take k n l ∙ ap (λ (m : ℕ). take m (drop k l)) (sym (suc-sub-suc n k))
+
+-- a string table from at up to e, from offset k on
+pub table-from : (f : List ℕ) (at e k : ℕ) → drop k (part f at (e - at)) ≡ slice (at + k) e f
+table-from f at e k = ap (drop k) (sym (drop-take at e f)) ∙ drop-drop k at (take e f)
 
 -- the same part, counted from the file's front
 pub part-part : (f : List ℕ) (at n k w : ℕ) → k + w ≤ n → part (part f at n) k w ≡ part f (at + k) w

@@ -1,0 +1,4 @@
+-- Where names stop, what the functions say, and laws of a memo.
+pub mod Stop
+pub mod Told
+pub mod Memo
