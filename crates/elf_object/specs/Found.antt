@@ -1,0 +1,72 @@
+-- Tests that hold of a whole list, at one of its elements.
+use mathlib.Core.Path.{_≡_, refl, sym, ap, _∙_}
+use mathlib.Core.Bool.{Bool, true, false, cond}
+use mathlib.Core.List.{List, [], _∷_, _++_}
+use mathlib.Core.Option.{Option, none, some}
+use Prim.Native.Nat.{ℕ, zero, suc, _<_}
+use native.Mathlib.Nat.{not-suc-le-zero, le-of-suc-le-suc}
+use native.Mathlib.Omega.{arith}
+use lib.ListN.{length, getD}
+use Rattle.lists.specs.Tab.{tab, length-tab, getD-tab}
+use Rattle.lists.specs.Tests.{not-some, both-true}
+use Rattle.model.specs.Bytes.{push, keep, orElse, firstIn, find}
+use Rattle.model.specs.Deposit.{all}
+
+module _ {A : Type 0} (ok : A → Bool) where
+  passed-nth : (l : List A) (k : ℕ) (d : A) → all ok l ≡ true → k < length l → ok (getD l k d) ≡ true
+  unfolding all
+  passed-nth [] k d e h = absurd (not-suc-le-zero h)
+  passed-nth (x ∷ l) zero d e h = both-true (ok x) (all ok l) e .0
+  passed-nth (x ∷ l) (suc k) d e h = passed-nth l k d (both-true (ok x) (all ok l) e .1) (le-of-suc-le-suc h)
+
+  -- number i of a list by number
+  pub passed-tab : (g : ℕ → A) (n i : ℕ) → all ok (tab g n) ≡ true → i < n → ok (g i) ≡ true
+  passed-tab g n i e h =
+      let l : i < length (tab g n) = rw length-tab h in
+      ap ok (sym (getD-tab g n i (g i) h)) ∙ passed-nth (tab g n) i (g i) e l
+
+  pub tab-passed : (g : ℕ → A) (n : ℕ) → ((i : ℕ) → i < n → ok (g i) ≡ true) → all ok (tab g n) ≡ true
+  unfolding all tab
+  tab-passed g zero h = refl
+  tab-passed g (suc n) h = snoc (tab g n) (tab-passed g n (λ i l. h i (omega arith))) (h n (omega arith))
+    where
+      snoc : (l : List A) → all ok l ≡ true → ok (g n) ≡ true → all ok (l ++ (g n ∷ [])) ≡ true
+      snoc [] a e = rw e
+      snoc (x ∷ l) a e = let (h, t) = both-true (ok x) (all ok l) a in rw h (snoc l t e)
+
+  -- a weaker test
+  pub passed-weaker : (p : A → Bool) → ((x : A) → ok x ≡ true → p x ≡ true) → (l : List A) → all ok l ≡ true → all p l ≡ true
+  unfolding all
+  passed-weaker p w [] a = refl
+  passed-weaker p w (x ∷ l) a = let (h, t) = both-true (ok x) (all ok l) a in rw (w x h) (passed-weaker p w l t)
+
+  -- the one that another test found, which passed that test too
+  pub passed-found : (p : A → Bool) (l : List A) (x : A) → find p l ≡ some x → all ok l ≡ true → (p x ≡ true) × (ok x ≡ true)
+  unfolding find firstIn all
+  passed-found p [] x e a = not-some x (sym e)
+  passed-found p (y ∷ l) x e a = go (p y) refl e (λ q. passed-found p l x q (both-true (ok y) (all ok l) a .1))
+    where
+      go : (b : Bool) → p y ≡ b → orElse (cond b (some y) none) (firstIn (λ z. cond (p z) (some z) none) l) ≡ some x
+          → (firstIn (λ z. cond (p z) (some z) none) l ≡ some x → (p x ≡ true) × (ok x ≡ true)) → (p x ≡ true) × (ok x ≡ true)
+      go true t q r = let i : y ≡ x = cc in rw (← i) (t, both-true (ok y) (all ok l) a .0)
+      go false t q r = r q
+
+  -- those that another test keeps
+  pub passed-kept : (p : A → Bool) (l : List A) → all ok l ≡ true → all ok (keep p l) ≡ true
+  unfolding all keep
+  passed-kept p [] a = refl
+  passed-kept p (x ∷ l) a = let (h, t) = both-true (ok x) (all ok l) a in go (p x) h (passed-kept p l t)
+    where
+      go : (b : Bool) → ok x ≡ true → all ok (keep p l) ≡ true → all ok (push b x (keep p l)) ≡ true
+      go true h r = rw h r
+      go false h r = r
+
+-- what is kept passed the test
+pub kept-passed : {A : Type 0} (p : A → Bool) (l : List A) → all p (keep p l) ≡ true
+unfolding all keep
+kept-passed p [] = refl
+kept-passed p (x ∷ l) = go (p x) refl (kept-passed p l)
+  where
+    go : (b : Bool) → p x ≡ b → all p (keep p l) ≡ true → all p (push b x (keep p l)) ≡ true
+    go true h r = rw h r
+    go false h r = r

@@ -1,0 +1,1 @@
+// Laws of a file's view. No code stands here.
