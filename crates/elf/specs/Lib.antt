@@ -1,3 +1,4 @@
 -- What the contracts of `elf` cite.
 pub mod Opened
 pub mod Btf
+pub mod Names

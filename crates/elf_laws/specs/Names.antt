@@ -1,6 +1,5 @@
--- 26 on a name by two lengths: how far its table goes on without a zero, and how far without a byte above 127. 'Names may share bytes .. so don't walk it once
--- for each' (E23): a length is that to a later place plus the length there (`run-skip`), so one backward pass over a string table that keeps both lengths at,
--- say, each 64th byte answers every name in 64 steps.
+-- 26 on a name by two lengths, how far its table goes on without a zero and how far without a byte above 127, and by one: how far in bytes from 1 to 127. 'Names
+-- may share bytes .. so don't walk it once for each' (E23): a length is that to a later place plus the length there (`run-skip`).
 use mathlib.Core.Path.{_≡_, refl, sym, ap, _∙_}
 use mathlib.Core.Bool.{Bool, true, false, cond, _&&_, and-false, and-comm, and-assoc}
 use mathlib.Core.List.{List, [], _∷_}

@@ -1,4 +1,5 @@
--- Where names stop, what the functions say, and laws of a memo.
+-- The lengths that are wanted, where names stop, what the functions tell, and laws of a memo.
+pub mod Lengths
 pub mod Stop
 pub mod Told
 pub mod Memo

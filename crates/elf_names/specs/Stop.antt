@@ -8,7 +8,7 @@ use native.Mathlib.Omega.{arith}
 use borrow.Author.Tests.{le-leb, lt-leb, eq-eqb, ne-eqb}
 use lib.Dec.{eqb, leb}
 use lib.ListN.{length, getD, take, List·getD-eq-default}
-use lib.Seq.{slice, slice-empty, length-slice, getD-drop, getD-take}
+use lib.Seq.{slice, length-slice, getD-drop, getD-take}
 use Rattle.lists.specs.Slice.{slice-next}
 use Rattle.model.specs.Elf.{upToZero}
 use Rattle.model.specs.ElfRefusals.{stringOk}
@@ -39,10 +39,6 @@ run-short ok (b ∷ s) = go (ok b) (run-short ok s)
 pub stop-from : (d : List ℕ) (e p : ℕ) → p ≤ stop d e p
 unfolding stop
 stop-from d e p = omega arith
-
-pub stop-none : (d : List ℕ) (e : ℕ) → stop d e e ≡ e
-unfolding stop run
-stop-none d e = rw (slice-empty e d) (add-zero e)
 
 module _ (d : List ℕ) (e : ℕ) (inside : e ≤ length d) where
   pub stop-within : (p : ℕ) → p ≤ e → stop d e p ≤ e

@@ -1,4 +1,4 @@
--- What the functions say: of where a name stops, of a memo, of one name, and of all records' names.
+-- What the functions tell: of where a name stops, of a memo, of one name, and of all names.
 use mathlib.Core.Path.{_≡_}
 use mathlib.Core.Logic.{_⊎_}
 use mathlib.Core.Bool.{Bool, true, false}
@@ -7,37 +7,14 @@ use Prim.Native.Nat.{ℕ, suc, _+_, _-_, _*_, _<_, _≤_}
 use native.Mathlib.Omega.{arith}
 use lib.ListN.{length, getD, drop, length-take, drop-of-length-le}
 use lib.Seq.{slice}
-use Rattle.lists.specs.Tab.{tab}
-use Rattle.model.specs.declared.Endianness.{Endianness}
-use Rattle.model.specs.Bytes.{part}
 use Rattle.model.specs.LicenceVersion.{hasZero}
-use Rattle.model.specs.Deposit.{all}
-use Rattle.model.specs.Elf.{field, upToZero, stringAt}
+use Rattle.model.specs.Elf.{upToZero}
 use Rattle.model.specs.ElfRefusals.{stringOk}
 use Rattle.elf_laws.specs.Places.{table-from}
 use Rattle.elf_names.specs.declared.Measured.{Measured}
 use Rattle.elf_names.specs.declared.Surveyed.{Surveyed}
+use Rattle.elf_names.specs.Lengths.{stringTable}
 use Rattle.elf_names.specs.Stop.{stop, stop-from}
-
--- ---- what is wanted
-
--- the string table from a place up to another
-abbrev pub stringTable : List ℕ → ℕ → ℕ → List ℕ
-stringTable d strings end = part d strings (end - strings)
-
--- the offset of record i's name: its first four bytes
-abbrev pub nameOffset : Endianness → List ℕ → ℕ → ℕ → ℕ → ℕ
-nameOffset order d at width i = field order d (at + width * i) 4
-
-module _ (order : Endianness) (d : List ℕ) (at width strings end n : ℕ) where
-  -- 26 on the names of n records
-  abbrev pub stringsOk : Bool
-  stringsOk = all (λ o. stringOk (drop o (stringTable d strings end))) (tab (nameOffset order d at width) n)
-
-  abbrev pub stringLengths : List ℕ
-  stringLengths = tab (λ i. length (stringAt (stringTable d strings end) (nameOffset order d at width i))) n
-
--- ---- what is known on the way
 
 -- the letters from p on stop at q, or more than 65,535 of them lie before it
 pub record Stopped (d : List ℕ) (end p q : ℕ) : Type 0 where

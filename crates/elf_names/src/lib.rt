@@ -1,15 +1,19 @@
-// The lengths of the names that records of an ELF file bear. Where a long one begins or goes on at a 1,024th byte of the string table, a memo has its end.
+// The lengths of the names that records of an ELF file bear. For long names a memo keeps, at each 1,024th byte of the string table, where the letters stop.
 ghost use mathlib.Core.Path.{_≡_};
 ghost use mathlib.Core.Bool.{true};
-ghost use Prim.Native.Nat.{_+_, _-_, _*_, _<_, _≤_, min};
+ghost use Prim.Native.Nat.{_+_, _*_, _≤_, min};
 ghost use lib.ListN.{length, drop};
 ghost use lib.Seq.{slice};
+ghost use Rattle.elf_names.specs.Lengths.{stringTable, stringsOk, stringLengths};
 ghost use Rattle.elf_names.specs.Stop.{stop};
-ghost use Rattle.elf_names.specs.Told.{stringTable, stringsOk, stringLengths, Stopped, MemoHolds, Filled, MeasureTold, SurveyTold};
+ghost use Rattle.elf_names.specs.Told.{Stopped, MemoHolds, Filled, MeasureTold, SurveyTold};
 use elf_records::four_in;
 use elf_records::index_at;
 use model::Endianness;
 use stream::size;
+
+// The length of the longest name.
+const LONGEST: usize = 65535;
 
 fn least(x: usize, y: usize) -> usize
     ensures { λ r. ⌜ r ≡ min x y ⌝ }
@@ -17,7 +21,7 @@ fn least(x: usize, y: usize) -> usize
     if x < y { x } else { y }
 }
 
-// Where the letters from p on stop, which are the bytes from 1 to 127; it looks at no more than 1,024.
+// Finds where the letters from p on stop, which are the bytes from 1 to 127; it looks at no more than 1,024 bytes.
 fn stride(d: &[u8], p: usize, end: usize) -> usize
     requires { ⌜ (p ≤ end) × (end ≤ length (now d)) ⌝ }
     ensures { λ r. ⌜ r ≡ min (p + 1024) (stop (now (d .entry)) end p) ⌝ }
@@ -37,19 +41,19 @@ fn stride(d: &[u8], p: usize, end: usize) -> usize
     k
 }
 
-// What is known of one name: its length, that it breaks a rule, or that it is long and there is no memo.
-pub enum Measured {
+// What is told of one name: its length, that it breaks a rule, or that it is long and there is no memo.
+enum Measured {
     Length(u32),
     Broken,
     Long,
 }
 
-// A name from p on, by the place where it stops.
+// Tells of the name from p on by the place where it stops.
 fn judge(d: &[u8], p: usize, q: usize, end: usize) -> Measured
     requires { ⌜ (p ≤ end) × (end ≤ length (now d)) × Stopped (now d) end p q ⌝ }
     ensures { λ r. ⌜ MeasureTold 1 (slice p end (now (d .entry))) r ⌝ }
 {
-    if q - p > 65535 {
+    if q - p > LONGEST {
         return Measured::Broken;
     }
     if end <= q {
@@ -61,7 +65,7 @@ fn judge(d: &[u8], p: usize, q: usize, end: usize) -> Measured
     Measured::Length((q - p) as u32)
 }
 
-// Where 1,024 letters or more from p on stop, or a place past 65,535 of them: from one 1,024th byte of the table to the next, up to one that the memo knows.
+// Finds where 1,024 letters or more stop, or a place past 65,535 of them: it goes from one 1,024th byte to the next, up to one that the memo knows.
 fn find_stop(d: &[u8], strings: usize, end: usize, p: usize, memo: &[u32]) -> usize
     requires { ⌜
         (strings ≤ p)
@@ -83,14 +87,14 @@ fn find_stop(d: &[u8], strings: usize, end: usize, p: usize, memo: &[u32]) -> us
         if q < x + 1024 {
             return q;
         }
-        if q - p > 65535 {
+        if q - p > LONGEST {
             return q;
         }
         j += 1;
     }
 }
 
-// A number into the memo for each 1,024th byte between two, up to the first that is known.
+// Stores v from one place of the memo up to another, or up to the first number that is known.
 fn fill(memo: &mut [u32], from: usize, to: usize, v: u32)
     ensures { λ r. ⌜ Filled from to v (now (memo .entry)) (now (memo .exit)) ⌝ }
 {
@@ -105,6 +109,7 @@ fn fill(memo: &mut [u32], from: usize, to: usize, v: u32)
     }
 }
 
+// Finds the stop, and fills in what was passed on the way.
 fn learn_stop(d: &[u8], strings: usize, end: usize, p: usize, memo: &mut [u32]) -> usize
     requires { ⌜
         (strings ≤ p)
@@ -117,14 +122,19 @@ fn learn_stop(d: &[u8], strings: usize, end: usize, p: usize, memo: &mut [u32]) 
     ensures { λ r. ⌜ Stopped (now (d .entry)) end p r × MemoHolds (now (d .entry)) strings end (now (memo .exit)) ⌝ }
 {
     let q = find_stop(d, strings, end, p, memo);
-    if q - p > 65535 {
+    if q - p > LONGEST {
         return q;
     }
-    fill(memo, (p - strings) / 1024 + 1, (q - strings) / 1024 + 1, (q + 1) as u32);
+    fill(
+        memo,
+        (p - strings) / 1024 + 1,
+        (q - strings) / 1024 + 1,
+        (q + 1) as u32,
+    );
     q
 }
 
-// The name at an offset. A long one is followed where there is a memo.
+// Measures the name at an offset. A long one is followed where there is a memo.
 fn measure(d: &[u8], strings: usize, end: usize, offset: usize, memo: &mut [u32]) -> Measured
     requires { ⌜ (strings ≤ end) × (end ≤ length (now d)) × (length (now d) ≤ 16777216) × MemoHolds (now d) strings end (now memo) ⌝ }
     ensures { λ r.
@@ -148,14 +158,24 @@ fn measure(d: &[u8], strings: usize, end: usize, offset: usize, memo: &mut [u32]
     judge(d, p, far, end)
 }
 
-// What a walk over the records says of their names: all are fine and their lengths are stored, one breaks a rule, or one is long and there is no memo.
-pub enum Surveyed {
+// What is told of all names: they are fine and their lengths are stored, one breaks a rule, or one is long and there is no memo.
+enum Surveyed {
     Fine,
     Broken,
     Long,
 }
 
-fn survey(d: &[u8], order: Endianness, at: usize, width: usize, strings: usize, end: usize, lens: &mut [u32], memo: &mut [u32]) -> Surveyed
+// Measures the names of all records, up to one that is not fine.
+fn survey(
+    d: &[u8],
+    order: Endianness,
+    at: usize,
+    width: usize,
+    strings: usize,
+    end: usize,
+    lens: &mut [u32],
+    memo: &mut [u32],
+) -> Surveyed
     requires { ⌜
         (at + width * length (now lens) ≤ length (now d))
         × (4 ≤ width)
@@ -191,9 +211,18 @@ fn survey(d: &[u8], order: Endianness, at: usize, width: usize, strings: usize, 
     Surveyed::Fine
 }
 
-// With a memo of 16,384 numbers, which is one for each 1,024th byte of the longest file.
+// Does so with a memo, which has a number for each 1,024th byte of the longest file.
 // It calls itself with the array, so that the compiler gives the array a frame of its own.
-fn long_lengths(d: &[u8], order: Endianness, at: usize, width: usize, strings: usize, end: usize, lens: &mut [u32], memo: &mut [u32]) -> bool
+fn long_lengths(
+    d: &[u8],
+    order: Endianness,
+    at: usize,
+    width: usize,
+    strings: usize,
+    end: usize,
+    lens: &mut [u32],
+    memo: &mut [u32],
+) -> bool
     requires { ⌜
         (at + width * length (now lens) ≤ length (now d))
         × (4 ≤ width)
@@ -220,7 +249,15 @@ fn long_lengths(d: &[u8], order: Endianness, at: usize, width: usize, strings: u
 }
 
 // Record i, of `width` bytes, has its name's offset in its first four bytes; the string table lies from `strings` up to `end`.
-pub fn name_lengths(d: &[u8], order: Endianness, at: usize, width: usize, strings: usize, end: usize, lens: &mut [u32]) -> bool
+pub fn name_lengths(
+    d: &[u8],
+    order: Endianness,
+    at: usize,
+    width: usize,
+    strings: usize,
+    end: usize,
+    lens: &mut [u32],
+) -> bool
     requires { ⌜
         (at + width * length (now lens) ≤ length (now d))
         × (4 ≤ width)

@@ -31,7 +31,6 @@ long-lengths-below t =
     (falls 3 long-lengths-kinds.ps _<_ μ-long-lengths t)
     long-lengths.Pre
 
--- src/lib.rt:213:70
 long-lengths-slice-aggregate-long-lengths :
     (t : ℕ) → long-lengths-lts.Need-slice-aggregate-long-lengths (
       long-lengths-below t,
@@ -41,7 +40,6 @@ long-lengths-slice-aggregate-long-lengths :
     ) (long-lengths-at t) long-lengths.Post
 long-lengths-slice-aggregate-long-lengths t c = search needs
 
--- src/lib.rt:213:9
 long-lengths-long-lengths-requires : (t : ℕ) → long-lengths-lts.Need-long-lengths-requires (
   long-lengths-below t,
   long-lengths.Post,
@@ -54,7 +52,6 @@ long-lengths-long-lengths-requires t c κs =
     let a = z .args in
     (omega (arith, z .pre .0), (p .0, p .1, p .2, p .3, p .4, memo-zeros (now (a .d)) (a .strings) (a .end) 16384))
 
--- src/lib.rt:213:9
 long-lengths-same-length : (t : ℕ) → long-lengths-lts.Need-same-length (
   long-lengths-below t,
   long-lengths.Post,
@@ -63,7 +60,6 @@ long-lengths-same-length : (t : ℕ) → long-lengths-lts.Need-same-length (
 ) (long-lengths-at t) long-lengths.Post
 long-lengths-same-length t c = search needs
 
--- src/lib.rt:213:9
 long-lengths-returns : (t : ℕ) → long-lengths-lts.Need-returns (
   long-lengths-below t,
   long-lengths.Post,
@@ -72,7 +68,6 @@ long-lengths-returns : (t : ℕ) → long-lengths-lts.Need-returns (
 ) (long-lengths-at t) long-lengths.Post
 long-lengths-returns t c = c .before .before .before .long-lengths .ensures
 
--- src/lib.rt:215:11
 long-lengths-survey-requires : (t : ℕ) → long-lengths-lts.Need-survey-requires (
   long-lengths-below t,
   long-lengths.Post,
@@ -81,7 +76,6 @@ long-lengths-survey-requires : (t : ℕ) → long-lengths-lts.Need-survey-requir
 ) (long-lengths-at t) long-lengths.Post
 long-lengths-survey-requires t c κs = search needs
 
--- src/lib.rt:216:27
 long-lengths-enum-told : (t : ℕ) → long-lengths-lts.Need-enum-told (
   long-lengths-below t,
   long-lengths.Post,
@@ -90,7 +84,6 @@ long-lengths-enum-told : (t : ℕ) → long-lengths-lts.Need-enum-told (
 ) (long-lengths-at t) long-lengths.Post
 long-lengths-enum-told t c = search needs
 
--- src/lib.rt:217:29
 long-lengths-enum-told-2 : (t : ℕ) → long-lengths-lts.Need-enum-told-2 (
   long-lengths-below t,
   long-lengths.Post,
@@ -99,7 +92,6 @@ long-lengths-enum-told-2 : (t : ℕ) → long-lengths-lts.Need-enum-told-2 (
 ) (long-lengths-at t) long-lengths.Post
 long-lengths-enum-told-2 t c = search needs
 
--- src/lib.rt:218:27
 long-lengths-enum-told-3 : (t : ℕ) → long-lengths-lts.Need-enum-told-3 (
   long-lengths-below t,
   long-lengths.Post,
@@ -108,7 +100,6 @@ long-lengths-enum-told-3 : (t : ℕ) → long-lengths-lts.Need-enum-told-3 (
 ) (long-lengths-at t) long-lengths.Post
 long-lengths-enum-told-3 t c = search needs
 
--- src/lib.rt:196:1
 long-lengths-same-length-2 : (t : ℕ) → long-lengths-lts.Need-same-length-2 (
   long-lengths-below t,
   long-lengths.Post,
@@ -117,7 +108,6 @@ long-lengths-same-length-2 : (t : ℕ) → long-lengths-lts.Need-same-length-2 (
 ) (long-lengths-at t) long-lengths.Post
 long-lengths-same-length-2 t c = search needs
 
--- src/lib.rt:196:1
 long-lengths-same-length-3 : (t : ℕ) → long-lengths-lts.Need-same-length-3 (
   long-lengths-below t,
   long-lengths.Post,
@@ -126,7 +116,6 @@ long-lengths-same-length-3 : (t : ℕ) → long-lengths-lts.Need-same-length-3 (
 ) (long-lengths-at t) long-lengths.Post
 long-lengths-same-length-3 t c = search needs
 
--- src/lib.rt:196:1
 long-lengths-returns-2 : (t : ℕ) → long-lengths-lts.Need-returns-2 (
   long-lengths-below t,
   long-lengths.Post,
@@ -136,7 +125,6 @@ long-lengths-returns-2 : (t : ℕ) → long-lengths-lts.Need-returns-2 (
 long-lengths-returns-2 t c =
     let e = rw (c .enum-told .given .1) at (c .before .before .before .before .before .before .survey .ensures) in (sym (e .0), λ h. e .1)
 
--- src/lib.rt:196:1
 long-lengths-same-length-4 : (t : ℕ) → long-lengths-lts.Need-same-length-4 (
   long-lengths-below t,
   long-lengths.Post,
@@ -145,7 +133,6 @@ long-lengths-same-length-4 : (t : ℕ) → long-lengths-lts.Need-same-length-4 (
 ) (long-lengths-at t) long-lengths.Post
 long-lengths-same-length-4 t c = search needs
 
--- src/lib.rt:196:1
 long-lengths-same-length-5 : (t : ℕ) → long-lengths-lts.Need-same-length-5 (
   long-lengths-below t,
   long-lengths.Post,
@@ -154,7 +141,6 @@ long-lengths-same-length-5 : (t : ℕ) → long-lengths-lts.Need-same-length-5 (
 ) (long-lengths-at t) long-lengths.Post
 long-lengths-same-length-5 t c = search needs
 
--- src/lib.rt:196:1
 long-lengths-returns-3 : (t : ℕ) → long-lengths-lts.Need-returns-3 (
   long-lengths-below t,
   long-lengths.Post,
@@ -164,7 +150,6 @@ long-lengths-returns-3 : (t : ℕ) → long-lengths-lts.Need-returns-3 (
 long-lengths-returns-3 t c =
     let e = rw (c .enum-told2 .given .1) at (c .before .before .before .before .before .before .survey .ensures) in (sym e, λ h. true-not-false (sym h))
 
--- src/lib.rt:196:1
 long-lengths-same-length-6 : (t : ℕ) → long-lengths-lts.Need-same-length-6 (
   long-lengths-below t,
   long-lengths.Post,
@@ -173,7 +158,6 @@ long-lengths-same-length-6 : (t : ℕ) → long-lengths-lts.Need-same-length-6 (
 ) (long-lengths-at t) long-lengths.Post
 long-lengths-same-length-6 t c = search needs
 
--- src/lib.rt:196:1
 long-lengths-same-length-7 : (t : ℕ) → long-lengths-lts.Need-same-length-7 (
   long-lengths-below t,
   long-lengths.Post,
@@ -182,7 +166,6 @@ long-lengths-same-length-7 : (t : ℕ) → long-lengths-lts.Need-same-length-7 (
 ) (long-lengths-at t) long-lengths.Post
 long-lengths-same-length-7 t c = search needs
 
--- src/lib.rt:196:1
 long-lengths-returns-4 : (t : ℕ) → long-lengths-lts.Need-returns-4 (
   long-lengths-below t,
   long-lengths.Post,

@@ -10,9 +10,6 @@ use Rattle.elf_names.specs.Memo.{filled-more}
 use borrow.Author.Needs.{needs}
 use Rattle.elf_names.proofs.fill.Statement.{statement}
 use Rattle.elf_names.proofs.fill.Tie as tie
-use Rattle.elf_names.proofs.fill.Reads as reads
-use Rattle.elf_names.proofs.fill.Lts as lts
-use Rattle.elf_names.proofs.least.Reads as least-reads
 
 abbrev Inv-loop : tie.InvT-loop
 Inv-loop memo₀ from to v e j₀ memo j = (from ≤ j) × (length memo ≡ length memo₀) × Filled from to v memo₀ memo
@@ -20,58 +17,45 @@ Inv-loop memo₀ from to v e j₀ memo j = (from ≤ j) × (length memo ≡ leng
 abbrev μ-loop : tie.MeasureT-loop
 μ-loop memo₀ from to v e j₀ memo j = e - j
 
--- src/lib.rt:97:9
 least-requires : tie.Need-least-requires Inv-loop μ-loop
 least-requires c κs = search needs
 
--- src/lib.rt:99:5
 loop-holds : tie.Need-loop-holds Inv-loop μ-loop
 loop-holds c = (omega arith, refl, λ i. inl refl)
 
--- src/lib.rt:100:12
 mul-if1 : tie.Need-mul-if1 Inv-loop μ-loop
 mul-if1 c = search needs
 
--- src/lib.rt:100:12
 slice-read-if1 : tie.Need-slice-read-if1 Inv-loop μ-loop
 slice-read-if1 c = search needs
 
--- src/lib.rt:101:13
 same-length : tie.Need-same-length Inv-loop μ-loop
 same-length c = search needs
 
--- src/lib.rt:101:13
 returns : tie.Need-returns Inv-loop μ-loop
 returns c = c .before .before .before .loop .inv .2
 
--- src/lib.rt:103:9
 mul-memo : tie.Need-mul-memo Inv-loop μ-loop
 mul-memo c = search needs
 
--- src/lib.rt:103:9
 slice-write-memo : tie.Need-slice-write-memo Inv-loop μ-loop
 slice-write-memo c = search needs
 
--- src/lib.rt:104:9
 add-j : tie.Need-add-j Inv-loop μ-loop
 add-j c = search needs
 
--- src/lib.rt:99:5
 loop-less : tie.Need-loop-less Inv-loop μ-loop
 loop-less c = search needs
 
--- src/lib.rt:99:5
 loop-again : tie.Need-loop-again Inv-loop μ-loop
 loop-again c =
     let l = c .before .before .before in
     let a = l .before .before .before .args in
     (omega arith, rw length-set (l .loop .inv .1), filled-more (a .from) (a .to) (a .v) (now (a .memo)) (l .loop .memo) (l .loop .j) (omega arith) (omega arith) (omega arith) (l .loop .inv .2))
 
--- src/lib.rt:94:1
 same-length-2 : tie.Need-same-length-2 Inv-loop μ-loop
 same-length-2 c = search needs
 
--- src/lib.rt:94:1
 returns-2 : tie.Need-returns-2 Inv-loop μ-loop
 returns-2 c = c .before .loop .inv .2
 

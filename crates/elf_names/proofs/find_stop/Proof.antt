@@ -9,11 +9,6 @@ use Rattle.elf_names.specs.Told.{stopped-at, stopped-past}
 use borrow.Author.Needs.{needs}
 use Rattle.elf_names.proofs.find_stop.Statement.{statement}
 use Rattle.elf_names.proofs.find_stop.Tie as tie
-use Rattle.elf_names.proofs.find_stop.Reads as reads
-use Rattle.elf_names.proofs.find_stop.Lts as lts
-use Rattle.elf_names.proofs.stride.Reads as stride-reads
-use Rattle.elf_records.proofs.index_at.Reads as index-at-reads
-use Rattle.stream.proofs.size.Reads as size-reads
 
 abbrev Inv-loop : tie.InvT-loop
 Inv-loop d strings end p memo j₀ j = (p ≤ strings + 1024 * j) × (strings + 1024 * j ≤ end) × (stop d end (strings + 1024 * j) ≡ stop d end p)
@@ -21,15 +16,12 @@ Inv-loop d strings end p memo j₀ j = (p ≤ strings + 1024 * j) × (strings + 
 abbrev μ-loop : tie.MeasureT-loop
 μ-loop d strings end p memo j₀ j = end + 1 - (strings + 1024 * j)
 
--- src/lib.rt:75:18
 sub-j : tie.Need-sub-j Inv-loop μ-loop
 sub-j c = search needs
 
--- src/lib.rt:75:17
 add-j : tie.Need-add-j Inv-loop μ-loop
 add-j c = search needs
 
--- src/lib.rt:76:5
 loop-holds : tie.Need-loop-holds Inv-loop μ-loop
 loop-holds c =
     let z = c .before .before in
@@ -37,19 +29,15 @@ loop-holds c =
     let x = a .strings + 1024 * ((a .p - a .strings) / 1024 + 1) in
     (omega arith, omega (arith, stop-within (now (a .d)) (a .end) (omega arith) (a .p) (omega arith)), stop-same (now (a .d)) (a .end) (omega arith) (a .p) x (omega arith) (omega arith) (omega arith))
 
--- src/lib.rt:77:26
 index-at-requires : tie.Need-index-at-requires Inv-loop μ-loop
 index-at-requires c κs = search needs
 
--- src/lib.rt:77:13
 size-requires : tie.Need-size-requires Inv-loop μ-loop
 size-requires c κs = search needs
 
--- src/lib.rt:79:20
 sub-result : tie.Need-sub-result Inv-loop μ-loop
 sub-result c = search needs
 
--- src/lib.rt:79:13
 returns : tie.Need-returns Inv-loop μ-loop
 unfolding indexAt
 returns c =
@@ -58,49 +46,39 @@ returns c =
     let a = z .args in
     stopped-at (now (a .d)) (a .end) (a .p) (c .before .size .result - 1) (sym (z .pre .4 (l .loop .j) (c .before .size .result - 1) (omega arith)) ∙ l .loop .inv .2)
 
--- src/lib.rt:81:27
 mul-x : tie.Need-mul-x Inv-loop μ-loop
 mul-x c = search needs
 
--- src/lib.rt:81:17
 add-x : tie.Need-add-x Inv-loop μ-loop
 add-x c = search needs
 
--- src/lib.rt:82:13
 stride-requires : tie.Need-stride-requires Inv-loop μ-loop
 stride-requires c κs = search needs
 
--- src/lib.rt:83:16
 add-if2 : tie.Need-add-if2 Inv-loop μ-loop
 add-if2 c = search needs
 
--- src/lib.rt:84:13
 returns-2 : tie.Need-returns-2 Inv-loop μ-loop
 returns-2 c =
     let l = c .before .before .before .before .before in
     let a = l .before .before .before .args in
     stopped-at (now (a .d)) (a .end) (a .p) (c .before .stride .result) (omega arith)
 
--- src/lib.rt:86:12
 sub-if3 : tie.Need-sub-if3 Inv-loop μ-loop
 sub-if3 c = omega arith
 
--- src/lib.rt:87:13
 returns-3 : tie.Need-returns-3 Inv-loop μ-loop
 returns-3 c =
     let l = c .before .before .before .before .before .before in
     let a = l .before .before .before .args in
     stopped-past (now (a .d)) (a .end) (a .p) (c .before .before .stride .result) (c .if3 .taken) (omega arith)
 
--- src/lib.rt:89:9
 add-j-2 : tie.Need-add-j-2 Inv-loop μ-loop
 add-j-2 c = search needs
 
--- src/lib.rt:76:5
 loop-less : tie.Need-loop-less Inv-loop μ-loop
 loop-less c = search needs
 
--- src/lib.rt:76:5
 loop-again : tie.Need-loop-again Inv-loop μ-loop
 loop-again c =
     let l = c .before .before .before .before .before .before in

@@ -7,20 +7,15 @@ use Rattle.elf_names.specs.Stop.{stop, stop-within, name-long, name-cut,
 use borrow.Author.Needs.{needs}
 use Rattle.elf_names.proofs.judge.Statement.{statement}
 use Rattle.elf_names.proofs.judge.Tie as tie
-use Rattle.elf_names.proofs.judge.Reads as reads
-use Rattle.elf_names.proofs.judge.Lts as lts
 
--- src/lib.rt:52:8
 sub-if1 : tie.Need-sub-if1
 sub-if1 c = search needs
 
--- src/lib.rt:53:9
 returns : tie.Need-returns
 returns c =
     let z = c .before in
     name-long (now (z .args .d)) (z .args .end) (z .pre .1) (z .args .p) (z .pre .0) (omega arith)
 
--- src/lib.rt:56:9
 returns-2 : tie.Need-returns-2
 returns-2 c =
     let z = c .before .before in
@@ -28,26 +23,21 @@ returns-2 c =
     name-cut (now (z .args .d)) (z .args .end) (z .pre .1) (z .args .p) (z .pre .0)
     (omega (arith, stop-within (now (z .args .d)) (z .args .end) (z .pre .1) (z .args .p) (z .pre .0)))
 
--- src/lib.rt:58:8
 shared-slice-read-if3 : tie.Need-shared-slice-read-if3
 shared-slice-read-if3 c = search needs
 
--- src/lib.rt:59:9
 returns-3 : tie.Need-returns-3
 returns-3 c =
     let z = c .before .before .before .before in
     let e = z .pre .2 .is (c .before .before .before .if1 .left) in
     name-other (now (z .args .d)) (z .args .end) (z .pre .1) (z .args .p) (z .pre .0) (omega arith) (rw (← e) (c .if3 .taken))
 
--- src/lib.rt:61:23
 sub-t5 : tie.Need-sub-t5
 sub-t5 c = search needs
 
--- src/lib.rt:61:22
 cast-t9 : tie.Need-cast-t9
 cast-t9 c = search needs
 
--- src/lib.rt:48:1
 returns-4 : tie.Need-returns-4
 returns-4 c =
     let z = c .before .before .before .before in

@@ -7,65 +7,48 @@ use Rattle.elf_names.specs.Told.{stopped-at, told-past, told-there}
 use borrow.Author.Needs.{needs}
 use Rattle.elf_names.proofs.measure.Statement.{statement}
 use Rattle.elf_names.proofs.measure.Tie as tie
-use Rattle.elf_names.proofs.measure.Reads as reads
-use Rattle.elf_names.proofs.measure.Lts as lts
-use Rattle.elf_names.proofs.judge.Reads as judge-reads
-use Rattle.elf_names.proofs.learn_stop.Reads as learn-stop-reads
-use Rattle.elf_names.proofs.stride.Reads as stride-reads
 
--- src/lib.rt:136:8
 sub-if1 : tie.Need-sub-if1
 sub-if1 c = search needs
 
--- src/lib.rt:137:9
 returns : tie.Need-returns
 returns c =
     let z = c .before .before .before in
     let a = z .args in
     (told-past (length (now (a .memo))) (now (a .d)) (a .strings) (a .end) (a .offset) (c .if1 .taken), z .pre .3)
 
--- src/lib.rt:139:13
 add-p : tie.Need-add-p
 add-p c = search needs
 
--- src/lib.rt:140:9
 stride-requires : tie.Need-stride-requires
 stride-requires c κs = search needs
 
--- src/lib.rt:141:12
 add-if2 : tie.Need-add-if2
 add-if2 c = search needs
 
--- src/lib.rt:142:9
 judge-requires : tie.Need-judge-requires
 judge-requires c κs =
     let a = c .before .before .before .before .before .args in
     (omega arith, omega arith, stopped-at (now (a .d)) (a .end) (a .strings + a .offset) (c .before .stride .result) (omega arith))
 
--- src/lib.rt:142:9
 returns-2 : tie.Need-returns-2
 returns-2 c =
     let z = c .before .before .before .before .before .before in
     let a = z .args in
     (told-there (length (now (a .memo))) (now (a .d)) (a .strings) (a .end) (a .offset) (c .judge .result) (c .judge .ensures), z .pre .3)
 
--- src/lib.rt:145:9
 returns-3 : tie.Need-returns-3
 returns-3 c = search needs
 
--- src/lib.rt:147:9
 learn-stop-requires : tie.Need-learn-stop-requires
 learn-stop-requires c κs = search needs
 
--- src/lib.rt:148:5
 judge-requires-2 : tie.Need-judge-requires-2
 judge-requires-2 c κs = search needs
 
--- src/lib.rt:128:1
 same-length : tie.Need-same-length
 same-length c = search needs
 
--- src/lib.rt:128:1
 returns-4 : tie.Need-returns-4
 returns-4 c =
     let a = c .before .before .before .before .before .before .before .before .before .before .before .args in (

@@ -1,42 +1,30 @@
 -- `elf_names::name_lengths` meets its contract: of no memo nothing is asked.
 use denote.Ref.{now}
 use mathlib.Core.Path.{sym}
-use native.Mathlib.Omega.{arith}
 use Rattle.lists.specs.Tests.{true-not-false}
 use Rattle.elf_names.specs.Memo.{memo-empty}
 use borrow.Author.Needs.{needs}
 use Rattle.elf_names.proofs.name_lengths.Statement.{statement}
 use Rattle.elf_names.proofs.name_lengths.Tie as tie
-use Rattle.elf_names.proofs.name_lengths.Reads as reads
-use Rattle.elf_names.proofs.name_lengths.Lts as lts
-use Rattle.elf_names.proofs.long_lengths.Reads as long-lengths-reads
-use Rattle.elf_names.proofs.survey.Reads as survey-reads
 
--- src/lib.rt:238:59
 slice-aggregate-survey : tie.Need-slice-aggregate-survey
 slice-aggregate-survey c = search needs
 
--- src/lib.rt:238:11
 survey-requires : tie.Need-survey-requires
 survey-requires c κs = search needs
 
--- src/lib.rt:239:27
 enum-told : tie.Need-enum-told
 enum-told c = search needs
 
--- src/lib.rt:240:29
 enum-told-2 : tie.Need-enum-told-2
 enum-told-2 c = search needs
 
--- src/lib.rt:241:75
 enum-told-3 : tie.Need-enum-told-3
 enum-told-3 c = search needs
 
--- src/lib.rt:241:81
 slice-aggregate-long-lengths : tie.Need-slice-aggregate-long-lengths
 slice-aggregate-long-lengths c = search needs
 
--- src/lib.rt:241:27
 long-lengths-requires : tie.Need-long-lengths-requires
 long-lengths-requires c κs =
     let s = c .before .before .before .before .before .before .before .survey in
@@ -44,29 +32,23 @@ long-lengths-requires c κs =
     let a = z .args in
     (rw (s .kept .1 .1 .1 .1 .1 .1 .0) (z .pre .0), z .pre .1, z .pre .2, z .pre .3, z .pre .4, memo-empty (now (a .d)) (a .strings) (a .end) (s .last .1 .1 .1 .1 .1 .1 .1 .0) (s .kept .1 .1 .1 .1 .1 .1 .1 .0))
 
--- src/lib.rt:223:1
 same-length : tie.Need-same-length
 same-length c = search needs
 
--- src/lib.rt:223:1
 returns : tie.Need-returns
 returns c =
     let e = rw (c .enum-told .given .1) at (c .before .before .before .before .before .survey .ensures) in (sym (e .0), λ h. e .1)
 
--- src/lib.rt:223:1
 same-length-2 : tie.Need-same-length-2
 same-length-2 c = search needs
 
--- src/lib.rt:223:1
 returns-2 : tie.Need-returns-2
 returns-2 c =
     let e = rw (c .enum-told2 .given .1) at (c .before .before .before .before .before .survey .ensures) in (sym e, λ h. true-not-false (sym h))
 
--- src/lib.rt:223:1
 same-length-3 : tie.Need-same-length-3
 same-length-3 c = search needs
 
--- src/lib.rt:223:1
 returns-3 : tie.Need-returns-3
 returns-3 c =
     let s = c .before .before .before .before .before .before .before .before .before .before .before .survey in

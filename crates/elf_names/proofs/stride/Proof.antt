@@ -1,15 +1,12 @@
 -- `elf_names::stride` meets its contract: from k on the letters stop where they stop from p on.
 use denote.Ref.{now}
 use mathlib.Core.Path.{_≡_, refl, sym, _∙_}
-use Prim.Native.Nat.{_-_, _≤_, _<_}
+use Prim.Native.Nat.{_-_, _≤_}
 use native.Mathlib.Omega.{arith}
 use Rattle.elf_names.specs.Stop.{stop, no-letter-zero, no-letter-high, is-letter, stop-from, stop-within, stop-letter, stop-other}
 use borrow.Author.Needs.{needs}
 use Rattle.elf_names.proofs.stride.Statement.{statement}
 use Rattle.elf_names.proofs.stride.Tie as tie
-use Rattle.elf_names.proofs.stride.Reads as reads
-use Rattle.elf_names.proofs.stride.Lts as lts
-use Rattle.elf_names.proofs.least.Reads as least-reads
 
 abbrev Inv-loop : tie.InvT-loop
 Inv-loop d p end e k₀ k = (p ≤ k) × (k ≤ e) × (stop d end k ≡ stop d end p)
@@ -17,45 +14,36 @@ Inv-loop d p end e k₀ k = (p ≤ k) × (k ≤ e) × (stop d end k ≡ stop d e
 abbrev μ-loop : tie.MeasureT-loop
 μ-loop d p end e k₀ k = e - k
 
--- src/lib.rt:24:19
 add-least : tie.Need-add-least Inv-loop μ-loop
 add-least c = search needs
 
--- src/lib.rt:24:9
 least-requires : tie.Need-least-requires Inv-loop μ-loop
 least-requires c κs = search needs
 
--- src/lib.rt:26:5
 loop-holds : tie.Need-loop-holds Inv-loop μ-loop
 loop-holds c = (omega arith, omega arith, refl)
 
--- src/lib.rt:27:17
 shared-slice-read-b : tie.Need-shared-slice-read-b Inv-loop μ-loop
 shared-slice-read-b c = search needs
 
--- src/lib.rt:29:13
 returns : tie.Need-returns Inv-loop μ-loop
 returns c =
     let l = c .before .before .before in
     let a = l .before .before .before .args in
     omega (arith, stop-other (now (a .d)) (a .end) (omega arith) (l .loop .k) (omega arith) (no-letter-zero _ (c .if1 .taken)))
 
--- src/lib.rt:32:13
 returns-2 : tie.Need-returns-2 Inv-loop μ-loop
 returns-2 c =
     let l = c .before .before .before .before in
     let a = l .before .before .before .args in
     omega (arith, stop-other (now (a .d)) (a .end) (omega arith) (l .loop .k) (omega arith) (no-letter-high _ (c .if2 .taken)))
 
--- src/lib.rt:34:9
 add-k : tie.Need-add-k Inv-loop μ-loop
 add-k c = search needs
 
--- src/lib.rt:26:5
 loop-less : tie.Need-loop-less Inv-loop μ-loop
 loop-less c = search needs
 
--- src/lib.rt:26:5
 loop-again : tie.Need-loop-again Inv-loop μ-loop
 loop-again c =
     let l = c .before .before .before .before in
@@ -63,7 +51,6 @@ loop-again c =
     let t = is-letter _ (c .before .if1 .left) (c .if2 .left) in
     (omega arith, omega arith, sym (stop-letter (now (a .d)) (a .end) (omega arith) (l .loop .k) (omega arith) t) ∙ l .loop .inv .2)
 
--- src/lib.rt:20:1
 returns-3 : tie.Need-returns-3 Inv-loop μ-loop
 returns-3 c =
     let l = c .before in

@@ -1,9 +1,9 @@
 -- `elf_names::survey` meets its contract: the lengths of the names passed are stored, and those to go decide whether all are fine.
 use denote.Ref.{now}
-use mathlib.Core.Path.{_≡_, refl, sym, ap, _∙_}
+use mathlib.Core.Path.{_≡_, refl, ap, _∙_}
 use mathlib.Core.Bool.{_&&_}
 use mathlib.Core.List.{_++_, append-nil}
-use Prim.Native.Nat.{ℕ, suc, _+_, _-_, _*_, _<_, _≤_}
+use Prim.Native.Nat.{ℕ, _+_, _-_, _*_, _<_, _≤_}
 use native.Mathlib.Nat.{mul-le-mul-left, mul-suc}
 use native.Mathlib.Omega.{arith}
 use lib.ListN.{length, drop, length-set}
@@ -13,15 +13,11 @@ use Rattle.lists.specs.Walk.{drop-tab-next, drop-tab-none}
 use Rattle.model.specs.Deposit.{all}
 use Rattle.model.specs.Elf.{stringAt}
 use Rattle.model.specs.ElfRefusals.{stringOk}
-use Rattle.elf_names.specs.Told.{stringTable, nameOffset, stringsOk, MemoHolds}
+use Rattle.elf_names.specs.Lengths.{stringTable, nameOffset, stringsOk}
+use Rattle.elf_names.specs.Told.{MemoHolds}
 use borrow.Author.Needs.{needs}
 use Rattle.elf_names.proofs.survey.Statement.{statement}
 use Rattle.elf_names.proofs.survey.Tie as tie
-use Rattle.elf_names.proofs.survey.Reads as reads
-use Rattle.elf_names.proofs.survey.Lts as lts
-use Rattle.elf_names.proofs.measure.Reads as measure-reads
-use Rattle.elf_records.proofs.four_in.Reads as four-in-reads
-use Rattle.stream.proofs.size.Reads as size-reads
 
 abbrev Inv-loop : tie.InvT-loop
 Inv-loop d order at width strings end lens₀ memo₀ i₀ lens memo i =
@@ -69,51 +65,39 @@ to-go c =
     (l .loop .inv .5
     ∙ ap (all (λ o. stringOk (drop o (stringTable (now (a .d)) (a .strings) (a .end))))) (drop-tab-next (nameOffset (a .order) (now (a .d)) (a .at) (a .width)) (length (now (a .lens))) (l .loop .i) (omega arith)))
 
--- src/lib.rt:176:5
 loop-holds : tie.Need-loop-holds Inv-loop μ-loop
 loop-holds c = (omega arith, refl, refl, c .before .before .before .pre .5, rw tab-none, refl)
 
--- src/lib.rt:177:50
 mul-four-in : tie.Need-mul-four-in Inv-loop μ-loop
 mul-four-in c = omega (arith, inside c)
 
--- src/lib.rt:177:45
 add-four-in : tie.Need-add-four-in Inv-loop μ-loop
 add-four-in c = omega (arith, inside c)
 
--- src/lib.rt:177:27
 four-in-requires : tie.Need-four-in-requires Inv-loop μ-loop
 four-in-requires c κs = inside c
 
--- src/lib.rt:177:13
 size-requires : tie.Need-size-requires Inv-loop μ-loop
 size-requires c κs = search needs
 
--- src/lib.rt:178:15
 measure-requires : tie.Need-measure-requires Inv-loop μ-loop
 measure-requires c κs = search needs
 
--- src/lib.rt:179:30
 enum-known-n : tie.Need-enum-known-n Inv-loop μ-loop
 enum-known-n c = search needs
 
--- src/lib.rt:180:17
 mul-lens : tie.Need-mul-lens Inv-loop μ-loop
 mul-lens c = search needs
 
--- src/lib.rt:180:17
 slice-write-lens : tie.Need-slice-write-lens Inv-loop μ-loop
 slice-write-lens c = search needs
 
--- src/lib.rt:181:17
 add-i : tie.Need-add-i Inv-loop μ-loop
 add-i c = search needs
 
--- src/lib.rt:176:5
 loop-less : tie.Need-loop-less Inv-loop μ-loop
 loop-less c = search needs
 
--- src/lib.rt:176:5
 loop-again : tie.Need-loop-again Inv-loop μ-loop
 loop-again c =
     let m = c .before .before .before .before .before in
@@ -130,52 +114,41 @@ loop-again c =
       to-go m ∙ rw (t .0),
     )
 
--- src/lib.rt:184:17
 enum-told : tie.Need-enum-told Inv-loop μ-loop
 enum-told c = search needs
 
--- src/lib.rt:184:17
 same-length : tie.Need-same-length Inv-loop μ-loop
 same-length c = search needs
 
--- src/lib.rt:184:17
 same-length-2 : tie.Need-same-length-2 Inv-loop μ-loop
 same-length-2 c = search needs
 
--- src/lib.rt:184:17
 returns : tie.Need-returns Inv-loop μ-loop
 returns c =
     let m = c .before .before .before .before in
     to-go m ∙ rw (rw (c .enum-told .given .1) at (m .measure .ensures .0))
 
--- src/lib.rt:187:17
 enum-told-2 : tie.Need-enum-told-2 Inv-loop μ-loop
 enum-told-2 c = search needs
 
--- src/lib.rt:187:17
 same-length-3 : tie.Need-same-length-3 Inv-loop μ-loop
 same-length-3 c = search needs
 
--- src/lib.rt:187:17
 same-length-4 : tie.Need-same-length-4 Inv-loop μ-loop
 same-length-4 c = search needs
 
--- src/lib.rt:187:17
 returns-2 : tie.Need-returns-2 Inv-loop μ-loop
 returns-2 c =
     let m = c .before .before .before .before in
     let e = rw (c .enum-told2 .given .1) at (m .measure .ensures .0) in
     omega arith
 
--- src/lib.rt:158:1
 same-length-5 : tie.Need-same-length-5 Inv-loop μ-loop
 same-length-5 c = search needs
 
--- src/lib.rt:158:1
 same-length-6 : tie.Need-same-length-6 Inv-loop μ-loop
 same-length-6 c = search needs
 
--- src/lib.rt:158:1
 returns-3 : tie.Need-returns-3 Inv-loop μ-loop
 unfolding all
 returns-3 c =
@@ -183,7 +156,7 @@ returns-3 c =
     let a = l .before .before .before .before .args in
     let e : l .loop .i ≡ length (now (a .lens)) = omega arith in (
       l .loop .inv .5
-      ∙ ap (all (λ o. stringOk (drop o (stringTable (now (a .d)) (a .strings) (a .end))))) (drop-tab-none (nameOffset (a .order) (now (a .d)) (a .at) (a .width)) (length (now (a .lens))) (l .loop .i) (omega arith)),
+          ∙ ap (all (λ o. stringOk (drop o (stringTable (now (a .d)) (a .strings) (a .end))))) (drop-tab-none (nameOffset (a .order) (now (a .d)) (a .at) (a .width)) (length (now (a .lens))) (l .loop .i) (omega arith)),
       l .loop .inv .4 ∙ rw (e, drop-length, append-nil),
     )
 
