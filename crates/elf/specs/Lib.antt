@@ -1,4 +1,5 @@
 -- What the contracts of `elf` cite.
-pub mod Opened
-pub mod Btf
 pub mod Names
+pub mod Btf
+pub mod Index
+pub mod Opened

@@ -21,7 +21,7 @@ use Rattle.model.specs.ElfRefusals.{headerOk, linksStrings, stringOk, sectionNa
 use Rattle.elf_laws.specs.Places.{records-tab, part-part}
 use Rattle.elf_header.specs.Headers.{headerIn, fileHeaderOf, headersOf, headersIn, sections-by-number, header-field}
 use Rattle.elf_layout.specs.Layout.{tablesOk, stringsAt, stringsEnd, tableSymbols, symbolsStart, elfView, layoutOf}
-use Rattle.elf_names.specs.Told.{stringTable, nameOffset, stringsOk, stringLengths}
+use Rattle.elf_names.specs.Lengths.{stringTable, nameOffset, stringsOk, stringLengths}
 use Rattle.elf_object.specs.Inside.{TablesRuled, StringsIn, sectionStrings, symbolStrings, section-strings, symbol-strings}
 
 -- ---- all of a mapped list
@@ -94,6 +94,10 @@ module _ (f : List ℕ) (r : TablesRuled f (fileOf f)) where
       go (some t) s =
           ap (all (λ o. stringOk (drop o (stringsOf f p (t .link))))) (table-offsets t)
           ∙ ap (λ (x : List ℕ). all (λ o. stringOk (drop o x)) (tab (nameOffset (p .order) f (symbolsStart t) 24) (tableSymbols t))) s
+
+  pub symbol-lengths : (j : ℕ) → length (stringAt (symbolStrings f) (field (fileOf f .order) f (elfView f .at .symbols + 24 * j) 4))
+      ≡ length (stringAt (stringTable f (elfView f .strings .symbols) (layoutOf f .ends .symbols)) (nameOffset (fileOf f .order) f (elfView f .at .symbols) 24 j))
+  symbol-lengths j = rw (symbol-strings f r .bytes)
 
 -- ---- all of 26
 
