@@ -3,3 +3,4 @@ pub mod Names
 pub mod Btf
 pub mod Index
 pub mod Opened
+pub mod Asked

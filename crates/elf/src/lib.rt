@@ -1,13 +1,20 @@
 // A file that was checked is opened: its names and relocations are indexed, and number 3.
 ghost use mathlib.Core.Path.{_≡_};
+ghost use mathlib.Core.Bool.{true};
 ghost use Prim.Native.Nat.{_+_, _*_, _≤_};
 ghost use lib.ListN.{length};
 ghost use Rattle.model.specs.Deposit.{hasBtf};
+ghost use Rattle.model.specs.Elf.{fileOf};
+ghost use Rattle.model.specs.ElfRefusals.{sectionNamesOk};
 ghost use Rattle.object.specs.View.{sectionIn, objectIn};
 ghost use Rattle.elf_layout.specs.Layout.{fileRefusal};
-ghost use Rattle.elf.specs.Opened.{indexLength};
+ghost use Rattle.elf.specs.Opened.{indexLength, Passes};
+ghost use Rattle.elf.specs.Names.{symbolNamesOk};
+ghost use Rattle.elf.specs.Index.{sectionPart, symbolPart};
 ghost use Rattle.elf.specs.Btf.{namedBtf};
 use elf_layout::FileCheck;
+use elf_layout::Layout;
+use elf_names::name_lengths;
 use model::Refusal;
 use model::SectionIndex;
 use model::SymbolIndex;
@@ -67,4 +74,49 @@ pub fn index_length(checked: FileCheck) -> usize
         FileCheck::Refused(_) => 0,
         FileCheck::Layout(l) => 3 * size(l.view.sections) + size(l.view.symbols) + size(l.view.relocations),
     }
+}
+
+// ---- the index
+
+// The lengths of the sections' names; false where a name breaks a rule.
+fn index_section_names(d: &[u8], l: Layout, t: &mut [u32]) -> bool
+    requires { ⌜ Passes (now d) l × (length (now t) ≡ l .view .sections) ⌝ }
+    ensures { λ r.
+        ⌜
+        (r ≡ sectionNamesOk (now (d .entry)) (fileOf (now (d .entry))))
+        × (r ≡ true → now (t .exit) ≡ sectionPart (now (d .entry)))
+        ⌝ }
+{
+    let v = l.view;
+    let order = v.order;
+    name_lengths(
+        d,
+        order,
+        size(v.at.sections),
+        64,
+        size(v.strings.sections),
+        size(l.ends.sections),
+        t,
+    )
+}
+
+fn index_symbol_names(d: &[u8], l: Layout, t: &mut [u32]) -> bool
+    requires { ⌜ Passes (now d) l × (length (now t) ≡ l .view .symbols) ⌝ }
+    ensures { λ r.
+        ⌜
+        (r ≡ symbolNamesOk (now (d .entry)) (fileOf (now (d .entry))))
+        × (r ≡ true → now (t .exit) ≡ symbolPart (now (d .entry)))
+        ⌝ }
+{
+    let v = l.view;
+    let order = v.order;
+    name_lengths(
+        d,
+        order,
+        size(v.at.symbols),
+        24,
+        size(v.strings.symbols),
+        size(l.ends.symbols),
+        t,
+    )
 }
