@@ -1,20 +1,32 @@
 -- What the index's functions ask and say, of the layout of a file that passes.
-use mathlib.Core.Path.{_≡_, sym, ap, _∙_}
-use mathlib.Core.Bool.{Bool, true}
-use mathlib.Core.List.{List}
-use Prim.Native.Nat.{ℕ, _+_, _*_, _≤_}
+use mathlib.Core.Path.{_≡_, refl, sym, ap, _∙_}
+use mathlib.Core.Logic.{inl, inr}
+use mathlib.Core.Bool.{Bool, true, false, cond, _&&_, _||_, not}
+use mathlib.Core.List.{List, [], _∷_, _++_}
+use Prim.Native.Nat.{ℕ, _+_, _*_, _/_, _<_, _≤_}
 use native.Mathlib.Omega.{arith}
+use borrow.Author.Tests.{leb-true, eqb-true, eqb-false}
+use lib.Dec.{eqb, leb}
 use lib.ListN.{length}
+use Rattle.lists.specs.Tab.{tab, rows}
+use Rattle.lists.specs.Tests.{true-not-false, both-true}
 use Rattle.model.specs.declared.Endianness.{Endianness}
-use Rattle.model.specs.Elf.{fileOf}
-use Rattle.model.specs.ElfRefusals.{sectionNamesOk}
-use Rattle.elf_header.specs.Headers.{headersIn}
+use Rattle.model.specs.Bytes.{keep, push}
+use Rattle.model.specs.Deposit.{all}
+use Rattle.model.specs.Elf.{Header, isType, isRelocations, entryCount, fileOf}
+use Rattle.model.specs.ElfRefusals.{headerOk, sectionNamesOk, relocTableOk, entriesOf}
+use Rattle.elf_header.specs.declared.Headers.{Headers}
+use Rattle.elf_header.specs.Headers.{headerIn, fileHeaderOf, headersOf, headersIn, sections-by-number}
+use Rattle.elf_header.specs.Used.{usedBy, usedIn, placesFor}
 use Rattle.elf_layout.specs.declared.Layout.{Layout}
-use Rattle.elf_layout.specs.Layout.{elfView, layoutOf}
+use Rattle.elf_layout.specs.Layout.{tableNumber, elfView, layoutOf}
 use Rattle.elf_names.specs.Lengths.{stringsOk, stringLengths}
-use Rattle.elf_object.specs.Inside.{TablesRuled, tables-ruled, section-strings, symbol-strings, headers-inside, symbols-inside}
+use Rattle.elf_relocations.specs.Placing.{Near, Settled, Placeable}
+use Rattle.elf_object.specs.Found.{passed-tab}
+use Rattle.elf_object.specs.Inside.{TablesRuled, tables-ruled, tables-in-use, bytes-inside, section-strings, symbol-strings, headers-inside, header-passes, symbols-inside}
+use Rattle.elf_object.specs.Placed.{info-few}
 use Rattle.elf.specs.Names.{symbolNamesOk, section-names, symbol-names}
-use Rattle.elf.specs.Index.{sectionPart, symbolPart}
+use Rattle.elf.specs.Index.{sectionPart, symbolPart, firstPart, countPart, placePart, relocationPart}
 use Rattle.elf.specs.Opened.{Passes}
 
 -- what `name_lengths` asks
@@ -66,3 +78,105 @@ module _ (f : List ℕ) (l : Layout) (p : Passes f l) where
   pub symbols-said : (at s e n : ℕ) (r : Bool) (z : List ℕ) → at ≡ l .view .at .symbols → s ≡ l .view .strings .symbols → e ≡ l .ends .symbols → n ≡ l .view .symbols
       → NamesSaid (l .view .order) f at 24 s e n r z → (r ≡ symbolNamesOk f (fileOf f)) × (r ≡ true → z ≡ symbolPart f)
   symbols-said at s e n r z a b c d w = said-symbols r z (rw (a, b, c, d, p .layout) at w)
+
+-- ---- the relocations
+
+-- what passes a test among those that are kept
+kept-passes : {A : Type 0} (p q : A → Bool) (xs : List A) → all p (keep q xs) ≡ true → all (λ x. not (q x) || p x) xs ≡ true
+unfolding all keep
+kept-passes p q [] e = refl
+kept-passes p q (x ∷ xs) e = go (q x) e
+  where
+    go : (b : Bool) → all p (push b x (keep q xs)) ≡ true → ((not b || p x) && all (λ y. not (q y) || p y) xs) ≡ true
+    go true e = let w = both-true (p x) (all p (keep q xs)) e in rw (w .0, kept-passes p q xs (w .1))
+    go false e = kept-passes p q xs e
+
+kept-at : {A : Type 0} (p q : A → Bool) (g : ℕ → A) (n i : ℕ) → all p (keep q (tab g n)) ≡ true → i < n → q (g i) ≡ true → p (g i) ≡ true
+kept-at p q g n i e l k = rw k at (passed-tab (λ x. not (q x) || p x) g n i (kept-passes p q (tab g n) e) l)
+
+module _ (f : List ℕ) (l : Layout) (p : Passes f l) where
+  abbrev hs : List Header
+  hs = tab (headerIn f (headersIn f)) (headersIn f .sections)
+
+  abbrev number : ℕ
+  number = tableNumber (fileOf f)
+
+  r : TablesRuled f (fileOf f)
+  r = tables-ruled f (fileOf f) (p .tables)
+
+  -- the headers by the layout
+  abbrev pub layoutHeaders : Headers
+  layoutHeaders = record { order = l .view .order; first = l .view .at .sections; sections = l .view .sections }
+
+  headers-are : record { order = layoutOf f .view .order; first = layoutOf f .view .at .sections; sections = layoutOf f .view .sections } ≡ headersIn f
+  unfolding layoutOf elfView headersOf fileHeaderOf
+  headers-are = refl
+
+  pub layout-headers : layoutHeaders ≡ headersIn f
+  layout-headers = rw (p .layout) headers-are
+
+  table-is : layoutOf f .table ≡ number
+  unfolding layoutOf
+  table-is = refl
+
+  pub layout-table : l .table ≡ number
+  layout-table = rw (p .layout) table-is
+
+  tables-pass : all (relocTableOk hs) (usedIn f (headersIn f) number) ≡ true
+  tables-pass =
+      ap (λ (ts : List Header). all (relocTableOk hs) ts) (sym (tables-in-use f))
+      ∙ ap (λ (ss : List Header). all (relocTableOk ss) (fileOf f .relocations)) (sym (sections-by-number f))
+      ∙ r .relocations
+
+  no-entries : (x : Header) → x .size ≡ 0 → entryCount x ≡ 0
+  no-entries x e = go (isType 9 x)
+    where
+      go : (b : Bool) → x .size / cond b 16 24 ≡ 0
+      go true = omega arith
+      go false = omega arith
+
+  near : (x : Header) → headerOk (length f) x ≡ true → usedBy number x ≡ true → Near x
+  near x ok u = go (eqb (x .size) 0) refl
+    where
+      kind : isRelocations x ≡ true
+      kind = both-true (isRelocations x) _ u .0
+
+      go : (b : Bool) → eqb (x .size) 0 ≡ b → Near x
+      go true e = let z : x .size ≡ 0 = eqb-true _ _ e in inl (no-entries x z)
+      go false e =
+          let z : x .size ≡ 0 → ⊥ = eqb-false _ _ e in
+          let o : x .offset + x .size ≤ length f = bytes-inside (length f) x ok (λ k. true-not-false (sym kind ∙ ap (λ (j : ℕ). eqb j 9 || eqb j 4) k)) (omega arith) in
+          inr (omega (arith, o, r .short))
+
+  settled : (i : ℕ) → i < headersIn f .sections → usedBy number (headerIn f (headersIn f) i) ≡ true → Settled (headersIn f) (headerIn f (headersIn f) i)
+  settled i b u =
+      record {
+        inside = leb-true _ _ (kept-at (λ t. leb (t .info) (headersIn f .sections)) (usedBy number) (headerIn f (headersIn f)) (headersIn f .sections) i (info-few f (headersIn f) number tables-pass) b u);
+        near = near (headerIn f (headersIn f) i) (header-passes f r i b) u;
+      }
+
+  file-relocations : entriesOf (usedIn f (headersIn f) number) ≡ layoutOf f .view .relocations
+  unfolding layoutOf elfView
+  file-relocations = ap entriesOf (sym (tables-in-use f))
+
+  file-count : layoutOf f .view .sections ≡ headersIn f .sections
+  unfolding layoutOf elfView
+  file-count = refl
+
+  few-entries : entriesOf (usedIn f (headersIn f) number) ≤ 65536
+  few-entries = rw (← tables-in-use f) (r .few-relocations)
+
+  pub relocations-ask : (n : ℕ) → n ≡ 2 * l .view .sections + l .view .relocations → Placeable f layoutHeaders (l .table) n
+  relocations-ask n e =
+      rw (layout-headers, layout-table)
+      (record {
+        tables = record { present = omega (arith, headers-inside f r); few = few-entries; settled = settled };
+        whole = e ∙ rw (p .layout, file-count, ← file-relocations);
+      })
+
+  pub relocations-said : (z : List ℕ)
+      → z ≡ tab (λ i. length (rows (placesFor f layoutHeaders (l .table)) i)) (layoutHeaders .sections)
+      ++ (tab (λ i. length (placesFor f layoutHeaders (l .table) i)) (layoutHeaders .sections) ++ rows (placesFor f layoutHeaders (l .table)) (layoutHeaders .sections))
+      → z ≡ relocationPart f
+  unfolding firstPart countPart placePart
+  relocations-said z e = e ∙ rw (layout-headers, layout-table)

@@ -4,3 +4,4 @@ pub mod Btf
 pub mod Index
 pub mod Opened
 pub mod Asked
+pub mod Told

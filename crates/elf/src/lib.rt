@@ -7,18 +7,22 @@ ghost use Rattle.model.specs.Deposit.{hasBtf};
 ghost use Rattle.model.specs.Elf.{fileOf};
 ghost use Rattle.model.specs.ElfRefusals.{sectionNamesOk};
 ghost use Rattle.object.specs.View.{sectionIn, objectIn};
-ghost use Rattle.elf_layout.specs.Layout.{fileRefusal};
-ghost use Rattle.elf.specs.Opened.{indexLength, Passes};
+ghost use Rattle.elf_layout.specs.Layout.{fileRefusal, checkedFile};
+ghost use Rattle.elf.specs.Opened.{layoutLength, indexLength, FileOpened, Passes};
 ghost use Rattle.elf.specs.Names.{symbolNamesOk};
-ghost use Rattle.elf.specs.Index.{sectionPart, symbolPart};
+ghost use Rattle.elf.specs.Index.{sectionPart, symbolPart, relocationPart};
+ghost use Rattle.elf.specs.Told.{Indexes};
 ghost use Rattle.elf.specs.Btf.{namedBtf};
+use elf_header::Headers;
 use elf_layout::FileCheck;
 use elf_layout::Layout;
 use elf_names::name_lengths;
+use elf_relocations::place_relocations;
 use model::Refusal;
 use model::SectionIndex;
 use model::SymbolIndex;
 use names::same;
+use object_view::Opened;
 use object_view::View;
 use records::Cursor;
 use records::Step;
@@ -119,4 +123,62 @@ fn index_symbol_names(d: &[u8], l: Layout, t: &mut [u32]) -> bool
         size(l.ends.symbols),
         t,
     )
+}
+
+// Where the relocations of each section lie.
+fn index_relocations(d: &[u8], l: Layout, t: &mut [u32])
+    requires { ⌜ Passes (now d) l × (length (now t) ≡ 2 * l .view .sections + l .view .relocations) ⌝ }
+    ensures { λ r. ⌜ now (t .exit) ≡ relocationPart (now (d .entry)) ⌝ }
+{
+    let v = l.view;
+    let order = v.order;
+    let h = Headers {
+        order,
+        first: size(v.at.sections),
+        sections: v.sections,
+    };
+    place_relocations(d, h, l.table, t);
+}
+
+// All of the index, from the front of t on; false where a name breaks a rule.
+fn index(d: &[u8], l: Layout, t: &mut [u32]) -> bool
+    requires { ⌜ Passes (now d) l × (layoutLength l ≤ length (now t)) ⌝ }
+    ensures { λ r. ⌜ Indexes (now (d .entry)) r (now (t .exit)) ⌝ }
+{
+    let s = size(l.view.sections);
+    let y = s + size(l.view.symbols);
+    let end = y + 2 * s + size(l.view.relocations);
+    if !index_section_names(d, l, &mut t[0..s]) {
+        return false;
+    }
+    if !index_symbol_names(d, l, &mut t[s..y]) {
+        return false;
+    }
+    index_relocations(d, l, &mut t[y..end]);
+    true
+}
+
+fn open_layout(d: &[u8], l: Layout, t: &mut [u32]) -> Opened
+    requires { ⌜ Passes (now d) l × (layoutLength l ≤ length (now t)) ⌝ }
+    ensures { λ r. ⌜ FileOpened (now (d .entry)) (now (t .exit)) r ⌝ }
+{
+    let v = l.view;
+    if !index(d, l, t) {
+        return Opened::Refused(refusal(26));
+    }
+    if has_btf(d, t, v) {
+        return Opened::Refused(refusal(3));
+    }
+    Opened::View(v)
+}
+
+// Opens a file that was checked, with its index in t.
+pub fn open(d: &[u8], checked: FileCheck, t: &mut [u32]) -> Opened
+    requires { ⌜ (checked ≡ checkedFile (now d)) × (indexLength checked ≤ length (now t)) ⌝ }
+    ensures { λ r. ⌜ FileOpened (now (d .entry)) (now (t .exit)) r ⌝ }
+{
+    match checked {
+        FileCheck::Refused(r) => Opened::Refused(r),
+        FileCheck::Layout(l) => open_layout(d, l, t),
+    }
 }

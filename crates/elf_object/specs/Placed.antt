@@ -122,7 +122,7 @@ module _ (f : List ℕ) (h : Headers) (n : ℕ) where
           lt-ltb 0 (t .info) (omega arith)
 
   module _ (ok : all (relocTableOk (tab (headerIn f h) (h .sections))) (usedIn f h n) ≡ true) where
-    info-few : all (λ t. leb (t .info) (h .sections)) (usedIn f h n) ≡ true
+    pub info-few : all (λ t. leb (t .info) (h .sections)) (usedIn f h n) ≡ true
     unfolding headerOf relocTableOk
     info-few = passed-weaker (relocTableOk hs) (λ t. leb (t .info) (h .sections)) named (usedIn f h n) ok
       where
