@@ -1,0 +1,3 @@
+-- What the contracts of `elf_relocations` cite.
+pub mod Written
+pub mod Placing
