@@ -85,11 +85,12 @@ module _ (f : List ℕ) (l : Layout) (p : Passes f l) where
 kept-passes : {A : Type 0} (p q : A → Bool) (xs : List A) → all p (keep q xs) ≡ true → all (λ x. not (q x) || p x) xs ≡ true
 unfolding all keep
 kept-passes p q [] e = refl
-kept-passes p q (x ∷ xs) e = go (q x) e
+kept-passes p q (x ∷ xs) e = go (q x) (kept-passes p q xs) e
   where
-    go : (b : Bool) → all p (push b x (keep q xs)) ≡ true → ((not b || p x) && all (λ y. not (q y) || p y) xs) ≡ true
-    go true e = let w = both-true (p x) (all p (keep q xs)) e in rw (w .0, kept-passes p q xs (w .1))
-    go false e = kept-passes p q xs e
+    go : (b : Bool) → (all p (keep q xs) ≡ true → all (λ y. not (q y) || p y) xs ≡ true) → all p (push b x (keep q xs)) ≡ true
+        → ((not b || p x) && all (λ y. not (q y) || p y) xs) ≡ true
+    go true f e = let w = both-true (p x) (all p (keep q xs)) e in rw (w .0, f (w .1))
+    go false f e = f e
 
 kept-at : {A : Type 0} (p q : A → Bool) (g : ℕ → A) (n i : ℕ) → all p (keep q (tab g n)) ≡ true → i < n → q (g i) ≡ true → p (g i) ≡ true
 kept-at p q g n i e l k = rw k at (passed-tab (λ x. not (q x) || p x) g n i (kept-passes p q (tab g n) e) l)
@@ -105,21 +106,21 @@ module _ (f : List ℕ) (l : Layout) (p : Passes f l) where
   r = tables-ruled f (fileOf f) (p .tables)
 
   -- the headers by the layout
-  abbrev pub layoutHeaders : Headers
-  layoutHeaders = record { order = l .view .order; first = l .view .at .sections; sections = l .view .sections }
+  abbrev pub headersFrom : ℕ → Headers
+  headersFrom at = record { order = l .view .order; first = at; sections = l .view .sections }
 
   headers-are : record { order = layoutOf f .view .order; first = layoutOf f .view .at .sections; sections = layoutOf f .view .sections } ≡ headersIn f
   unfolding layoutOf elfView headersOf fileHeaderOf
   headers-are = refl
 
-  pub layout-headers : layoutHeaders ≡ headersIn f
+  layout-headers : headersFrom (l .view .at .sections) ≡ headersIn f
   layout-headers = rw (p .layout) headers-are
 
   table-is : layoutOf f .table ≡ number
   unfolding layoutOf
   table-is = refl
 
-  pub layout-table : l .table ≡ number
+  layout-table : l .table ≡ number
   layout-table = rw (p .layout) table-is
 
   tables-pass : all (relocTableOk hs) (usedIn f (headersIn f) number) ≡ true
@@ -166,17 +167,17 @@ module _ (f : List ℕ) (l : Layout) (p : Passes f l) where
   few-entries : entriesOf (usedIn f (headersIn f) number) ≤ 65536
   few-entries = rw (← tables-in-use f) (r .few-relocations)
 
-  pub relocations-ask : (n : ℕ) → n ≡ 2 * l .view .sections + l .view .relocations → Placeable f layoutHeaders (l .table) n
-  relocations-ask n e =
-      rw (layout-headers, layout-table)
+  pub relocations-ask : (at n : ℕ) → at ≡ l .view .at .sections → n ≡ 2 * l .view .sections + l .view .relocations → Placeable f (headersFrom at) (l .table) n
+  relocations-ask at n a e =
+      rw (a, layout-headers, layout-table)
       (record {
         tables = record { present = omega (arith, headers-inside f r); few = few-entries; settled = settled };
         whole = e ∙ rw (p .layout, file-count, ← file-relocations);
       })
 
-  pub relocations-said : (z : List ℕ)
-      → z ≡ tab (λ i. length (rows (placesFor f layoutHeaders (l .table)) i)) (layoutHeaders .sections)
-      ++ (tab (λ i. length (placesFor f layoutHeaders (l .table) i)) (layoutHeaders .sections) ++ rows (placesFor f layoutHeaders (l .table)) (layoutHeaders .sections))
+  pub relocations-said : (at : ℕ) (z : List ℕ) → at ≡ l .view .at .sections
+      → z ≡ tab (λ i. length (rows (placesFor f (headersFrom at) (l .table)) i)) (headersFrom at .sections)
+      ++ (tab (λ i. length (placesFor f (headersFrom at) (l .table) i)) (headersFrom at .sections) ++ rows (placesFor f (headersFrom at) (l .table)) (headersFrom at .sections))
       → z ≡ relocationPart f
   unfolding firstPart countPart placePart
-  relocations-said z e = e ∙ rw (layout-headers, layout-table)
+  relocations-said at z a e = e ∙ rw (a, layout-headers, layout-table)

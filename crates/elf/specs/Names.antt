@@ -48,7 +48,7 @@ module _ (f : List ℕ) (r : TablesRuled f (fileOf f)) where
       ap (λ (hs : List Header). all (λ h. stringOk (drop (h .name) (sectionStrings f))) hs) (sections-by-number f)
       ∙ sym (all-map (λ o. stringOk (drop o (sectionStrings f))) (λ (h : Header). h .name) (tab (headerIn f (headersIn f)) (headersIn f .sections)))
       ∙ ap (all (λ o. stringOk (drop o (sectionStrings f))))
-        (map-tab (headerIn f (headersIn f)) (headersIn f .sections) (λ (h : Header). h .name) ∙ tab-ext _ _ (headersIn f .sections) (λ i l. name-field i))
+      (map-tab (headerIn f (headersIn f)) (headersIn f .sections) (λ (h : Header). h .name) ∙ tab-ext _ _ (headersIn f .sections) (λ i l. name-field i))
       ∙ ap (λ (t : List ℕ). all (λ o. stringOk (drop o t)) (tab (nameOffset (fileOf f .order) f (elfView f .at .sections) 64) (headersIn f .sections))) s
 
   pub section-lengths : (i : ℕ) → length (stringAt (sectionStrings f) (headerIn f (headersIn f) i .name))

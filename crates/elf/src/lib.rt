@@ -76,7 +76,9 @@ pub fn index_length(checked: FileCheck) -> usize
 {
     match checked {
         FileCheck::Refused(_) => 0,
-        FileCheck::Layout(l) => 3 * size(l.view.sections) + size(l.view.symbols) + size(l.view.relocations),
+        FileCheck::Layout(l) => 3 * size(l.view.sections)
+            + size(l.view.symbols)
+            + size(l.view.relocations),
     }
 }
 

@@ -182,7 +182,7 @@ module _ (f t : List ℕ) (r : TablesRuled f (fileOf f)) (named : maybe (fileOf 
       let e : EntryRead f j = entry-read f r j l in
       let index : (j + 1) % 4294967296 ≡ 1 + j = omega (arith, symbols-few f r) in
       let section : unlessNone (sectionOrNone (num f (elfView f) (entryAt f (elfView f) j + 6) 2) .0) (sectionOrNone (num f (elfView f) (entryAt f (elfView f) j + 6) 2))
-          ≡ symbolSection (field (fileOf f .order) (symbolEntry f j) 6 2) =
+      ≡ symbolSection (field (fileOf f .order) (symbolEntry f j) 6 2) =
       section-or-none (num f (elfView f) (entryAt f (elfView f) j + 6) 2) ∙ ap (λ (s : ℕ). symbolSection s) (e .section)
       in
       let name : nameIn f (elfView f) (elfSymbol f t (elfView f) j .name) ≡ stringAt (symbolStrings f) (symbolNameOffset f j) =
@@ -192,7 +192,7 @@ module _ (f t : List ℕ) (r : TablesRuled f (fileOf f)) (named : maybe (fileOf 
       kind-of-info (getD f (entryAt f (elfView f) j + 4) 0) ∙ ap (λ (b : ℕ). kindByType (b % 16)) (e .info)
       in
       let definition : eqb (definitionOf (kindOfInfo (getD f (entryAt f (elfView f) j + 4) 0)) (sectionOrNone (num f (elfView f) (entryAt f (elfView f) j + 6) 2))) 1
-          ≡ isDefinition (u8 (symbolEntry f j) 4 % 16) (symbolSection (field (fileOf f .order) (symbolEntry f j) 6 2)) =
+      ≡ isDefinition (u8 (symbolEntry f j) 4 % 16) (symbolSection (field (fileOf f .order) (symbolEntry f j) 6 2)) =
       definition-is (getD f (entryAt f (elfView f) j + 4) 0) (num f (elfView f) (entryAt f (elfView f) j + 6) 2)
       ∙ (λ k. isDefinition (e .info k % 16) (symbolSection (e .section k)))
       in
