@@ -154,7 +154,7 @@ pub fn section_info(d: &[u8], h: Headers, i: u32) -> u32
 
 // ---- tables in use
 
-fn is_relocations(kind: u32) -> bool
+pub fn is_relocations(kind: u32) -> bool
     ensures { λ r. ⌜ r ≡ (eqb kind 9 || eqb kind 4) ⌝ }
 {
     if kind == 9 {

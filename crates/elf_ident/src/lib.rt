@@ -42,7 +42,7 @@ fn low_place(order: Endianness, w: usize) -> usize
 
 // Tells whether the bytes from p on that are present, up to w, are those of the number x in the file's byte order.
 pub fn field_is(d: &[u8], order: Endianness, p: usize, w: usize, x: u8) -> bool
-    requires { ⌜ (p < 2 ^ 63) × (0 < w) × (w ≤ 8) ⌝ }
+    requires { ⌜ (p + w < 2 ^ 64) × (0 < w) × (w ≤ 8) ⌝ }
     ensures { λ r. ⌜ r ≡ fieldIs order w x (part (now (d .entry)) p w) ⌝ }
 {
     let mut s = [0; 8];
