@@ -1,4 +1,4 @@
-# What the choosers' walks share: a test of the count of symbols, and an arm that hands all on to another function.
+# What the choosers' walks share: a test of a count, and an arm that hands all on to another function.
 from common import *
 LAWFUL = '(EL.lawful F.the-type F′.the-laws 𝓤 H A W tt .typed r _ is .0)'
 
@@ -8,10 +8,10 @@ def ask(c, call, B):
     c.note('the test is asked')
     c.push('use0 W (raw (Test .pre to-test)) goes-test', 'pre')
     c.bind('calls-at ! fm Test known-test to-test %s (λ v.' % c.opds(W['lst'](call[2]))); c.nl(); c.c[0] = 'post'
-    c.e('use1 W (later (some (λ (y : Bool). (‵ ftrue ⊛ ‵ (Boolean .own y (v ∷ []))) ⊛ raw (ensured 𝓤 H A small.ended (testOf 𝓤 %s) tt (opened, tt) tt y)))) (id⊢ 𝓤 _)' % B); c.await_(); c.pick('y')
+    c.e('use1 W (later (some (λ (y : Bool). (‵ ftrue ⊛ ‵ (Boolean .own y (v ∷ []))) ⊛ raw (ensured 𝓤 H A small.ended (testOf 𝓤 %s) tt (%s, tt) tt y)))) (id⊢ 𝓤 _)' % (B, K.var)); c.await_(); c.pick('y')
     c.split('post', 'tr', 'ens'); c.move('ens')
-    c.e('use1 W (some (λ (zs : Unit {0} × Unit {0}). ‵ (lasts small.ended tt (opened, tt) zs) ⊛ raw (fact 𝓤 (y ≡ leb (symbolCount opened) %s)))) (id⊢ 𝓤 _)' % B); c.pick('zs')
-    c.split('ens', 'las', 'says'); c.drop('las'); c.move('says'); c.bind('heard ! (y ≡ leb (symbolCount opened) %s) (λ e.' % B); c.c.pop(0); c.nl()
+    c.e('use1 W (some (λ (zs : Unit {0} × Unit {0}). ‵ (lasts small.ended tt (%s, tt) zs) ⊛ raw (fact 𝓤 (y ≡ leb (%s %s) %s)))) (id⊢ 𝓤 _)' % (K.var, K.count, K.var, B)); c.pick('zs')
+    c.split('ens', 'las', 'says'); c.drop('las'); c.move('says'); c.bind('heard ! (y ≡ leb (%s %s) %s) (λ e.' % (K.count, K.var, B)); c.c.pop(0); c.nl()
     c.split('tr', 'true', 'ownb'); c.drop('true'); c.move('ownb'); c.bind('peeks ! Boolean (Is Boolean) (shows 𝓤 H A Boolean) y (v ∷ []) (λ is.')
     c.land(k, '(bool-lawful 𝓤 H A W .typed y _ is .0)')
     c.e('rewrite ! %d (λ (u : Val). ‵ (fat fullShare tyBool l%s 0 u)) (ap only is) refl' % (c.pos('_%d' % k), sub(k)), True)

@@ -9,7 +9,19 @@ FIRST = os.environ['FIRST']
 V = lambda v, k: v + sub(k)
 def den(r): return 'Function' if r == 'T.the-row' else 'ℕ'
 def prodT(ts): return 'Unit {0}' if not ts else '%s × (%s)' % (ts[0], prodT(ts[1:])) if len(ts) > 1 else '%s × Unit {0}' % ts[0]
-OVALS = 'EL.vals O.the-type O′.the-laws'
+# What the walks of one kind are about: its name in the contracts, its type, the module of its row; the crates, the functions and their sizes.
+class Kind:
+    def __init__(k, **w): k.__dict__.update(w)
+KINDS = {
+    'opened': Kind(var='opened', type='Opened', row='O', params=[('d', 'shr', 'u8'), ('t', 'shr', 'u32'), ('opened', 'enum', None)], about=['d', 't'],
+                   sized='load_functions', here='load_opened', whole='load_opened', sizes=[('load_64', 64), ('load_2048', 2048), ('load_65536', 65536)],
+                   count='symbolCount', can='Open', counted='symbols'),
+    'file': Kind(var='checked', type='FileCheck', row='K', params=[('d', 'shr', 'u8'), ('checked', 'enum', None)], about=['d'],
+                 sized='load_file', here='load_elf', whole='load_checked', sizes=[('load_512', 512), ('load_16384', 16384), ('load_143360', 143360)],
+                 count='indexLength', can='Checks', counted='numbers of the index'),
+}
+K = KINDS[os.environ.get('KIND', 'opened')]
+OVALS = 'EL.vals %s.the-type %s′.the-laws' % (K.row, K.row)
 
 class Sig:
     """parameters: (number, name, kind, row); kind shr, mut, bool, enum, or count: a u32 that is called by its name, or that name is its value"""
@@ -39,20 +51,20 @@ class Sig:
         s.LastsT = prodT(['List ' + den(p[3]) if p[2] == 'mut' else 'Unit {0}' for p in P])
         s.pos = {p[0]: j for j, p in enumerate(P)}
         s.name = {p[1]: p[0] for p in P}
-    def arg(s, p): return {'bool': 'on', 'enum': 'opened', 'count': p[1]}.get(p[2]) or V('x', p[0])
-    def argT(s, p): return {'bool': 'Bool', 'enum': 'Opened', 'count': 'ℕ'}.get(p[2]) or 'RefT (List %s)' % den(p[3])
+    def arg(s, p): return {'bool': 'on', 'enum': K.var, 'count': p[1]}.get(p[2]) or V('x', p[0])
+    def argT(s, p): return {'bool': 'Bool', 'enum': K.type, 'count': 'ℕ'}.get(p[2]) or 'RefT (List %s)' % den(p[3])
     def val(s, p): return {'bool': 'bool-vals on', 'count': 'uint-vals w32 ' + par(p[1]), 'enum': V('v', p[0]) + ' ∷ []'}.get(p[2]) or 'slice-vals ' + V('x', p[0])
     def flatv(s, p): return {'bool': 'vbool on', 'count': 'vint w32 ' + par(p[1]), 'enum': V('v', p[0])}.get(p[2]) or 'sliceVal (%s .ptr) (length (%s .now))' % (V('x', p[0]), V('x', p[0]))
     def ty(s, p, j=None):
         if p[2] == 'bool': return 'Boolean'
         if p[2] == 'count': return 'u32'
-        if p[2] == 'enum': return 'O.the-row'
+        if p[2] == 'enum': return K.row + '.the-row'
         return ('ShrSlice' if p[2] == 'shr' else 'MutSlice') + ' (named %d) %s %s' % (s.LIF[p[0]] if j is None else j, V('κ', p[0]), p[3])
     def fact(s, p):
         if p[2] == 'count': return '%s < 2 ^ 32' % p[1]
-        return 'Is O.the-row opened (%s ∷ [])' % V('v', p[0]) if p[2] == 'enum' else 'Room %s (length (%s .now))' % (p[3], V('x', p[0]))
+        return 'Is %s.the-row %s (%s ∷ [])' % (K.row, K.var, V('v', p[0])) if p[2] == 'enum' else 'Room %s (length (%s .now))' % (p[3], V('x', p[0]))
     def ev(s, c, p):
-        if p[2] == 'enum': return '(EL.lawful O.the-type O′.the-laws 𝓤 H A W tt .typed opened _ %s .0)' % V('g', p[0])
+        if p[2] == 'enum': return '(EL.lawful %s.the-type %s′.the-laws 𝓤 H A W tt .typed %s _ %s .0)' % (K.row, K.row, K.var, V('g', p[0]))
         c.fits[p[0]] = V('g', p[0]) + ' .0' if p[2] in ('shr', 'mut') else V('g', p[0]) if p[2] == 'count' else None
         return c.ev(p[0], c.fits[p[0]])
     def passes(s, c):
@@ -60,21 +72,21 @@ class Sig:
         c.e('pass0 !', True)
     def stay(s, p):
         j = s.LIF.get(p[0])
-        return {'bool': 'stay-dropped (plain (λ _. Boolean)) yes', 'count': 'stay-dropped (plain (λ _. u32)) yes', 'enum': 'stay-dropped (plain (λ _. O.the-row)) yes',
+        return {'bool': 'stay-dropped (plain (λ _. Boolean)) yes', 'count': 'stay-dropped (plain (λ _. u32)) yes', 'enum': 'stay-dropped (plain (λ _. %s.the-row)) yes' % K.row,
                 'shr': 'stay-dropped (shrSliceOf (%s ∷ []) tt (plain (λ _. %s))) yes' % (j, p[3]), 'mut': 'gave-slice (%s ∷ []) tt (plain (λ _. %s))' % (j, p[3])}[p[2]]
     def goes(s, p):
         j = s.LIF.get(p[0]); n = s.nl
-        return {'bool': 'goes-dropped 𝓤 H A W %d (plain (λ _. Boolean)) yes (λ κs x f. refl)' % n, 'count': 'goes-dropped 𝓤 H A W %d (plain (λ _. u32)) yes (λ κs x f. refl)' % n, 'enum': 'goes-dropped 𝓤 H A W %d (plain (λ _. O.the-row)) yes (λ κs x f. refl)' % n,
+        return {'bool': 'goes-dropped 𝓤 H A W %d (plain (λ _. Boolean)) yes (λ κs x f. refl)' % n, 'count': 'goes-dropped 𝓤 H A W %d (plain (λ _. u32)) yes (λ κs x f. refl)' % n, 'enum': 'goes-dropped 𝓤 H A W %d (plain (λ _. %s.the-row)) yes (λ κs x f. refl)' % (n, K.row),
                 'shr': 'goes-dropped 𝓤 H A W %d (shrSliceOf (%s ∷ []) tt (plain (λ _. %s))) yes (λ κs x f. refl)' % (n, j, p[3]), 'mut': 'goes-gave-slice 𝓤 H A W %d %s tt (plain (λ _. %s))' % (n, j, p[3])}[p[2]]
     def tells(s, p):
         if p[2] == 'bool': return 'bool-tells'
         if p[2] == 'count': return 'uint-tells w32'
-        if p[2] == 'enum': return 'EL.tells O.the-type O′.the-laws'
+        if p[2] == 'enum': return 'EL.tells %s.the-type %s′.the-laws' % (K.row, K.row)
         j = s.LIF[p[0]]
         return '%s-slice-tells (named %d) (κs%s) %s' % (p[2], j, proj(j), p[3])
     def valsf(s): return nest([{'bool': 'bool-vals', 'count': 'uint-vals w32', 'enum': OVALS}.get(p[2], 'slice-vals') for p in s.P])
     def applied(s):
-        return ' '.join(['(κs%s)' % proj(s.LIF[p[0]]) for p in s.REFS] + ['(qs%s)' % proj(s.LIF[p[0]]) for p in s.REFS] + ['(a%s)' % proj(s.pos[p[0]]) + (' (EL.val O.the-type O′.the-laws (a%s))' % proj(s.pos[p[0]]) if p[2] == 'enum' else '') for p in s.P]
+        return ' '.join(['(κs%s)' % proj(s.LIF[p[0]]) for p in s.REFS] + ['(qs%s)' % proj(s.LIF[p[0]]) for p in s.REFS] + ['(a%s)' % proj(s.pos[p[0]]) + (' (EL.val %s.the-type %s′.the-laws (a%s))' % (K.row, K.row, proj(s.pos[p[0]])) if p[2] == 'enum' else '') for p in s.P]
                         + ['(are%s%s)' % (proj(s.pos[p[0]]), {'enum': '', 'count': ' .1'}.get(p[2], ' .0 .1')) for p in s.FACTP])
     def room(s, x):   # x: function of the parameter's number
         return '(lentRoom %s)' % ' '.join('(length (%s))' % x(s.name[n]) for n in ('sections', 'programs', 'functions', 'maps', 'relocations', 'bytes'))
@@ -95,7 +107,9 @@ class Sig:
 
 TAB = [('sections', 'mut', 'u64'), ('programs', 'mut', 'u64'), ('functions', 'mut', 'T.the-row'), ('maps', 'mut', 'u64'), ('relocations', 'mut', 'u64'), ('bytes', 'mut', 'u8')]
 def num(ps): return [(k + 1,) + p for k, p in enumerate(ps)]
-INNER = Sig(num([('d', 'shr', 'u8'), ('t', 'shr', 'u32'), ('opened', 'enum', None), ('entries', 'shr', 'u64'), ('patches', 'shr', 'u8'), ('rewrite', 'bool', None)] + TAB))
+INNER = Sig(num(K.params + [('entries', 'shr', 'u64'), ('patches', 'shr', 'u8'), ('rewrite', 'bool', None)] + TAB))
+# `load_opened`, which the functions for a file call
+OPENED = [('d', 'shr', 'u8'), ('t', 'shr', 'u32'), ('opened', 'enum', None)]
 MORE = Sig(num([('tries', 'count', None)] + [p[1:] for p in INNER.P]))
 OUTER = Sig(num([('d', 'shr', 'u8'), ('entries', 'shr', 'u64'), ('patches', 'shr', 'u8'), ('rewrite', 'bool', None)] + TAB))
 
@@ -106,7 +120,7 @@ def mty(t, byval=True):
     if k == 'tyInt': return 'tyInt w' + t[1]
     if k == 'tyNamed':
         n = t[1][1].strip('"')
-        return {'model::Answer': 'F′.mir', 'object_view::Opened': 'O′.mir', 'load_object::Loaded': 'L′.mir'}.get(n) or ('T′.mir' if byval else 'pointee (T.the-row .written)')
+        return {'model::Answer': 'F′.mir', 'object_view::Opened': 'O′.mir', 'elf_layout::FileCheck': 'K′.mir', 'load_object::Loaded': 'L′.mir'}.get(n) or ('T′.mir' if byval else 'pointee (T.the-row .written)')
     if k == 'tyStruct': return 'sliceTy (%s)' % mty(W['lst'](t[2])[0])
     if k == 'tyRef': return 'tyRef %s %s %s' % (t[1] if isinstance(t[1], str) else '(named %s)' % t[1][1], t[2], par(mty(t[3], False)))
     if k == 'tyArray': return 'tyArray %s N' % par(mty(t[1]))
@@ -158,3 +172,13 @@ def uses(text, heads):
             m = r.match(r'use (\S+) as (\S+)$', h)
             if r.search(r'(?<![\w′·-])' + r.escape(m.group(2)) + r'\.[\w#-]', code): out.append(h)
     return '\n'.join(out)
+
+# --- what the contracts of one kind say; x: the list that a parameter's number names
+def about(S, x): return ' '.join('(%s)' % x(S.name[n]) for n in K.about)
+def asks_of(S, x, o, name='Asks'): return '%s %s %s' % (name, about(S, x), o)
+ASKS = ' → '.join(['List ℕ'] * len(K.about) + [K.type, 'Type 0'])
+def outcome_of(S, x, o, on):
+    n = S.name
+    rest = '(%s) (%s) %s' % (x(n['entries']), x(n['patches']), on)
+    if K.var == 'opened': return '(outcomeIn %s (verdictIn %s %s %s))' % (S.room(x), about(S, x), o, rest)
+    return '(loadElfOf %s %s %s)' % (about(S, x), rest, S.room(x))

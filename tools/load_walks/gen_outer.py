@@ -5,18 +5,17 @@ def outer(S, first, at_one):
     n = S.name
     A_ = lambda v: (lambda k: '%s%s .now' % (v, proj(S.pos[k])))
     X_ = lambda k: V('x', k) + ' .now'
-    def verdict(x, o, on): return '(verdictIn (%s) (%s) %s (%s) (%s) %s)' % (x(n['d']), x(n['t']), o, x(n['entries']), x(n['patches']), on)
-    def asked(x, o): return 'Asks (%s) (%s) %s' % (x(n['d']), x(n['t']), o)
-    opened_a = '(a%s)' % proj(S.pos[n['opened']])
+    def asked(x, o): return asks_of(S, x, o)
+    opened_a = '(a%s)' % proj(S.pos[n[K.var]])
     body = '''-- each has the signature of `%s`
 abbrev pub stayed : Stays (load′.ended .signature .params) (load′.ended .kept)
 stayed = %s
 
-module _ {M : Type 1} (𝓤 : URA M) (H : Heap 𝓤) (A : Atoms 𝓤) (W : Given 𝓤 H A) (Asks : List ℕ → List ℕ → Opened → Type 0) where
+module _ {M : Type 1} (𝓤 : URA M) (H : Heap 𝓤) (A : Atoms 𝓤) (W : Given 𝓤 H A) (Asks : %s) where
   abbrev pub clausesOf : Clauses 𝓤 load′.ended
-  clausesOf κs a = record { ghost = Unit {0}; requires = λ _. fact 𝓤 (%s); ensures = λ _ r end. fact 𝓤 (Loads (outcomeIn %s %s) r %s) }
+  clausesOf κs a = record { ghost = Unit {0}; requires = λ _. fact 𝓤 (%s); ensures = λ _ r end. fact 𝓤 (Loads %s r %s) }
 
-''' % (first, nest([S.stay(p) for p in S.P]), asked(A_('a'), opened_a), S.room(A_('a')), verdict(A_('a'), opened_a, '(a%s)' % proj(S.pos[n['rewrite']])), ' '.join('(%s)' % A_('end')(p[0]) for p in S.MUTS))
+''' % (first, nest([S.stay(p) for p in S.P]), ASKS, asked(A_('a'), opened_a), outcome_of(S, A_('a'), opened_a, '(a%s)' % proj(S.pos[n['rewrite']])), ' '.join('(%s)' % A_('end')(p[0]) for p in S.MUTS))
     body += f'''  module _ {S.KQX} where
     abbrev pub Toks : Item 𝓤
     Toks = {S.toks}
@@ -32,7 +31,7 @@ module _ {M : Type 1} (𝓤 : URA M) (H : Heap 𝓤) (A : Atoms 𝓤) (W : Given
 
     -- what is said of the answer and of the six last lists
     abbrev pub Facts : Answer → {' → '.join('List ' + d for _, d in S.zl)} → Type 0
-    Facts r {S.zn} = Loads (outcomeIn {S.room(X_)} {verdict(X_, 'opened', 'on')}) r {S.zn}
+    Facts r {S.zn} = Loads {outcome_of(S, X_, K.var, 'on')} r {S.zn}
 
     pub exits : (r : Answer) (w : Val) {S.zparams} → Facts r {S.zn} → {S.lenT}
         → ent 𝓤 (⋆ 𝓤 H A ({S.exits_items})) (Post w)
@@ -51,7 +50,7 @@ module _ {M : Type 1} (𝓤 : URA M) (H : Heap 𝓤) (A : Atoms 𝓤) (W : Given
   Contract-of = tripleOf 𝓤 H A load′.signature (closing 𝓤 H A load′.ended clausesOf)
 
   pub meets-at : (go : Fun 𝓤) → ((vs : List Val) → Mono 𝓤 (go vs)) → (y : Contract-of .Ghost)
-      → ({S.KQX} {S.ROOMS} → {at_y(S.arg(S.P[0]))} ≡ y .0 .3 .0 → {asked(X_, 'opened')} → ent 𝓤 (⋆ 𝓤 H A (Toks {S.kqx} ∷ Owned {S.kqx} ∷ [])) (go ({S.flat}) (Post {S.kqx})))
+      → ({S.KQX} {S.ROOMS} → {at_y(S.arg(S.P[0]))} ≡ y .0 .3 .0 → {asked(X_, K.var)} → ent 𝓤 (⋆ 𝓤 H A (Toks {S.kqx} ∷ Owned {S.kqx} ∷ [])) (go ({S.flat}) (Post {S.kqx})))
       → ent 𝓤 (Contract-of .pre y) (go (Contract-of .args y) (Contract-of .post y))
   meets-at go mono y walk =
       walk-meets-at 𝓤 H A load′.ended stayed W {goes} clausesOf go mono y
@@ -60,7 +59,7 @@ module _ {M : Type 1} (𝓤 : URA M) (H : Heap 𝓤) (A : Atoms 𝓤) (W : Given
 '''
     else:
         body += f'''  pub meets : (go : Fun 𝓤) → ((vs : List Val) → Mono 𝓤 (go vs))
-      → ({S.KQX} {S.ROOMS} → {asked(X_, 'opened')} → ent 𝓤 (⋆ 𝓤 H A (Toks {S.kqx} ∷ Owned {S.kqx} ∷ [])) (go ({S.flat}) (Post {S.kqx})))
+      → ({S.KQX} {S.ROOMS} → {asked(X_, K.var)} → ent 𝓤 (⋆ 𝓤 H A (Toks {S.kqx} ∷ Owned {S.kqx} ∷ [])) (go ({S.flat}) (Post {S.kqx})))
       → Meets 𝓤 H A load′.signature go (closing 𝓤 H A load′.ended clausesOf)
   meets go mono walk =
       walk-meets 𝓤 H A load′.ended stayed W {goes} clausesOf go mono
@@ -69,17 +68,23 @@ module _ {M : Type 1} (𝓤 : URA M) (H : Heap 𝓤) (A : Atoms 𝓤) (W : Given
 '''
     return body
 
-ATMOST = '''-- what was opened can be read, and has at most B symbols
+if K.var == 'opened': ATMOST = '''-- what was opened can be read, and has at most B symbols
 abbrev pub AtMost : ℕ → List ℕ → List ℕ → Opened → Type 0
 AtMost B d t o = Open d t o × (symbolCount o ≤ B)
+
+'''
+else: ATMOST = '''-- the file was checked, and its index has at most B numbers
+abbrev pub AtMost : ℕ → List ℕ → FileCheck → Type 0
+AtMost B d c = Checks d c × (indexLength c ≤ B)
 
 '''
 def put(file, head, body, heads):
     open(OUT + '/proofs/' + file, 'w').write(head + uses(body, heads) + '\n\n' + body)
 heads = [h for h in HEADS if 'Outer' not in h and '.Choice' not in h]
-if CRATE == 'load_functions':
-    put('Outer.antt', '-- The outside of each function that loads what was opened: one contract, but for what it asks of that (`Asks`), and how a walk\'s end, at any function of this signature, meets it. Assumes `Given`.\n',
+DOES = 'loads what was opened' if K.var == 'opened' else 'loads a file that was checked'
+if CRATE == K.sized:
+    put('Outer.antt', '-- The outside of each function that %s: one contract, but for what it asks of that (`Asks`), and how a walk\'s end, at any function of this signature, meets it. Assumes `Given`.\n' % DOES,
         ATMOST + outer(INNER, FIRST, False), heads)
 else:
     put('OuterMore.antt', '-- The outside of `load_more`, which has a count before the others and calls itself. Assumes `Given`.\n',
-        outer(MORE, 'load_more', True), [h.replace('use Rattle.load_functions.proofs.' + FIRST + ' as load′', 'use Rattle.load_opened.proofs.load_more as load′') for h in heads])
+        outer(MORE, 'load_more', True), [h.replace('use Rattle.%s.proofs.%s as load′' % (K.sized, FIRST), 'use Rattle.%s.proofs.load_more as load′' % K.here) for h in heads])

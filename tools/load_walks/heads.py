@@ -50,6 +50,11 @@ use Rattle.model.specs.declared.Answer.{Answer}
 use Rattle.model.specs.declared.Function.{Function}
 use Rattle.model.specs.declared.Room.{Room as LentRoom}
 use Rattle.model.specs.Lent.{lent, lentRoom, Outcome, outcome, outcomeIn, loadOf}
+use Rattle.model.specs.ElfRefusals.{loadElfOf}
+use Rattle.elf_layout.specs.declared.FileCheck.{FileCheck}
+use Rattle.elf_layout.specs.Layout.{checkedFile}
+use Rattle.elf.specs.Opened.{indexLength, FileOpened}
+use @FILES.Files.{Checks, file-open, file-outcome}
 use Rattle.object_view.specs.declared.Opened.{Opened}
 use Rattle.deposit.specs.Open.{openedOf}
 use Rattle.rows_functions.specs.declared.Rows.{Rows}
@@ -58,14 +63,14 @@ use Rattle.load_object.specs.declared.Loaded.{Loaded}
 use Rattle.load_object.specs.Done.{Open, symbolCount, verdictIn, CoreDone}
 use Rattle.load_core.specs.Core.{open-deposit, deposit-outcome}
 use @SPECS.Loads.{Loads}
-use Rattle·@CRATE·proofs.proofs.Again.{LentAgain, lends-again, comes-back}
+use @FUNCTIONS.Again.{LentAgain, lends-again, comes-back}
 use @SPECS.Shared.{shares-all}
 use @OUTER as outer
 use @OUTER.{AtMost}
-use Rattle.load_opened.proofs.OuterMore as outer-more
-use Rattle.load_opened.proofs.Choice.{most-of, testOf, TestAt, LoadsAt, asked, asks}
-use Rattle.load_opened.proofs.load_more as more
-use Rattle·@CRATE·proofs.proofs.Scratch.{Const, const, zeros, length-zeros, zeros-is, zeros-room, scratch-room}
+use Rattle·@HERE·proofs.proofs.OuterMore as outer-more
+use Rattle·@HERE·proofs.proofs.Choice.{most-of, testOf, TestAt, LoadsAt, asked, asks}
+use Rattle·@HERE·proofs.proofs.load_more as more
+use @FUNCTIONS.Scratch.{Const, const, zeros, length-zeros, zeros-is, zeros-room, scratch-room}
 use @SPECS.Slot.{lends-array, array-room}
 use Rattle.model.proofs.Function as T
 use Rattle.model.proofs.Function.Laws as T′
@@ -73,6 +78,8 @@ use Rattle.model.proofs.Answer as F
 use Rattle.model.proofs.Answer.Laws as F′
 use Rattle.object_view.proofs.Opened as O
 use Rattle.object_view.proofs.Opened.Laws as O′
+use Rattle.elf_layout.proofs.FileCheck as K
+use Rattle.elf_layout.proofs.FileCheck.Laws as K′
 use Rattle.rows_functions.proofs.Rows as R
 use Rattle.rows_functions.proofs.Rows.Laws as R′
 use Rattle.load_object.proofs.Loaded as L
@@ -85,7 +92,7 @@ use Rattle.deposit.proofs.open as opening
 use Rattle.deposit.proofs.open.Symbol as open-def
 use Rattle.deposit.proofs.open.Symbol.{name as #open}
 use Rattle.deposit.proofs.open.Met as open-thm
-use Rattle.load_opened.proofs.is_small as small
+use Rattle·@HERE·proofs.proofs.is_small as small
 use @FIRST as load′
 use Rattle.load_opened.proofs.load_opened as whole′
 use Rattle.load_opened.proofs.load_opened.Symbol as whole-def
@@ -94,5 +101,10 @@ use Rattle.load_opened.proofs.load_opened.Met as whole-thm
 use Rattle.load.proofs.load.Key.{name as #load}
 use Rattle.load.proofs.load as f
 use Rattle.load.proofs.load.Statement as stated
-use Rattle.load.proofs.load.Code as code'''.replace('@CRATE', os.environ['CRATE']).replace('@FIRST', ('Rattle.load_functions.proofs.' if os.environ['CRATE'] == 'load_functions' else 'Rattle.load_functions.proofs.') + os.environ['FIRST']).replace('@OUTER', 'Rattle.load_functions.proofs.Outer' if os.environ['CRATE'] == 'load_functions' else 'Rattle.load_functions.proofs.Outer').replace(
-    '@SPECS', 'Rattle.load_functions.specs' if os.environ['CRATE'] == 'load_functions' else 'Rattle.load_functions.specs').split('\n')
+use Rattle.load.proofs.load.Code as code'''
+from common import K, CRATE, FIRST
+def of(crate, what): return ('Rattle.%s.%s' if crate == CRATE else 'Rattle.%s.%.0s%s') % (crate, what, what)
+for a, b in (('@FIRST', of(K.sized, 'proofs') + '.' + FIRST), ('@OUTER', of(K.sized, 'proofs') + '.Outer'), ('@SPECS', of('load_functions', 'specs')), ('@FUNCTIONS', of('load_functions', 'proofs')),
+             ('@FILES', of('load_file', 'specs')), ('@HERE', K.here)):
+    HEADS = HEADS.replace(a, b)
+HEADS = HEADS.split('\n')
