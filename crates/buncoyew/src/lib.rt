@@ -1,10 +1,12 @@
-// The load call and the look-up in its function table, for programs in C and Rust to link: include/buncoyew.h.
+// The load calls and the look-up in a function table, for programs in C and Rust to link: include/buncoyew.h.
 ghost use mathlib.Core.Path.{_≡_};
 ghost use mathlib.Core.List.{[], _∷_};
 ghost use Rattle.model.specs.Lent.{lent, roomIn, loadOf};
+ghost use Rattle.model.specs.ElfRefusals.{loadElfOf};
 ghost use Rattle.model.specs.LookUp.{foundIn, rowNumber};
 ghost use Rattle.model.specs.AnswerNumbers.{orderNumber, statedBit, statedVersion, acceptedAnswer, refusedAnswer, answerOf, call, callOf};
 use load::load;
+use load_elf::load_elf;
 use model::Answer;
 use model::Endianness;
 use model::Found;
@@ -124,6 +126,46 @@ pub extern "C" fn buncoyew_load(
         ⌝ }
 {
     let loaded = load(
+        d,
+        entries,
+        patches,
+        rewrite,
+        sections,
+        programs,
+        functions,
+        maps,
+        relocations,
+        bytes,
+    );
+    *answer = answer_of(loaded);
+}
+
+// The same of an ELF file.
+#[no_mangle]
+pub extern "C" fn buncoyew_load_elf(
+    d: &[u8],
+    entries: &[u64],
+    patches: &[u8],
+    rewrite: bool,
+    sections: &mut [u64],
+    programs: &mut [u64],
+    functions: &mut [Function],
+    maps: &mut [u64],
+    relocations: &mut [u64],
+    bytes: &mut [u8],
+    answer: &mut LoadAnswer,
+)
+    ensures { λ _.
+        ⌜
+        call (now (answer .exit))
+        (lent (now (sections .exit)) (now (programs .exit)) (now (functions .exit)) (now (maps .exit)) (now (relocations .exit)) (now (bytes .exit)))
+        ≡ callOf
+        (loadElfOf (now (d .entry)) (now (entries .entry)) (now (patches .entry)) rewrite
+        (roomIn
+        (lent (now (sections .entry)) (now (programs .entry)) (now (functions .entry)) (now (maps .entry)) (now (relocations .entry)) (now (bytes .entry)))))
+        ⌝ }
+{
+    let loaded = load_elf(
         d,
         entries,
         patches,
