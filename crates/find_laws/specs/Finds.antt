@@ -1,4 +1,4 @@
--- After an accepted load the look-up in the function table finds the function of the catalogue that has the section and the address, or nothing if none has.
+-- After an accepted load, of a deposit or a file, the look-up finds the function of the catalogue that has the section and the address, or nothing if none has.
 use mathlib.Core.Path.{_≡_, refl, sym, ap, _∙_, subst}
 use mathlib.Core.Bool.{Bool, false}
 use mathlib.Core.List.{List}
@@ -18,13 +18,13 @@ use Rattle.model.specs.Catalogue.{Function, Catalogue, functionKey}
 use Rattle.model.specs.Contents.{catalogueOf}
 use Rattle.model.specs.Refusals.{refusalOf}
 use Rattle.model.specs.Patching.{accepted, finish, verdict, load}
-use Rattle.model.specs.Deposit.{objectOf}
 use Rattle.model.specs.PatchList.{patchesOf}
-use Rattle.model.specs.Lent.{functionsAt, codeStart, summaryOf, imageOf, filled, filledTo, zeroRow, loadOf}
+use Rattle.model.specs.Lent.{functionsAt, codeStart, summaryOf, imageOf, filled, filledTo, zeroRow}
 use Rattle.model.specs.LookUp.{rowKey, foundIn}
 use Rattle.model.specs.declared.Room.{Room}
 use Rattle.guarantees.specs.TableLaws.{Sorted, sorted-table}
-use Rattle.guarantees.specs.AcceptedDeposits.{deposit-accepted}
+use Rattle.guarantees.specs.WordsOfDemand3.{Input, objectRead, outcomeOn}
+use Rattle.guarantees.specs.AcceptedInputs.{input-accepted}
 use Rattle.guarantees.specs.SecondHalf.{accepted-is}
 use Rattle.guarantees.specs.LentBack.{Given, given-is}
 use Rattle.finish_laws.specs.Alike.{Alike, alike-finish}
@@ -59,20 +59,20 @@ module _ (a c n : ℕ) (fs : List Function) (s : Sorted functionKey fs) (k : Lis
       ∙ ap (placeFrom k 0) (take-at (functionRows a c fs) (replicate (n - length (functionRows a c fs)) zeroRow) (length (functionRows a c fs)) refl)
       ∙ place-is k 0 a c fs
 
-module _ (d entries bytes : List ℕ) (on : Bool) (room : Room) (h : Summary) (e : loadOf d entries bytes on room .reply ≡ Answer.Accepted h) where
+module _ (x : Input) (entries bytes : List ℕ) (on : Bool) (room : Room) (h : Summary) (e : outcomeOn x entries bytes on room .reply ≡ Answer.Accepted h) where
   abbrev functions : List Function
-  functions = catalogueOf (objectOf d) .functions
+  functions = catalogueOf (objectRead x) .functions
 
-  abbrev given : Given d entries bytes on room h
-  given = given-is d entries bytes on room h e
+  abbrev given : Given x entries bytes on room h
+  given = given-is x entries bytes on room h e
 
   abbrev loaded : Catalogue
   loaded = given .catalogue
 
-  alike : Alike (catalogueOf (objectOf d)) loaded
+  alike : Alike (catalogueOf (objectRead x)) loaded
   alike =
-      rw (load-is (objectOf d) (patchesOf entries bytes) on loaded (deposit-accepted d (patchesOf entries bytes) on loaded (given .answer) .1))
-      (alike-finish (objectOf d) (patchesOf entries bytes) on (catalogueOf (objectOf d)))
+      rw (load-is (objectRead x) (patchesOf entries bytes) on loaded (input-accepted x (patchesOf entries bytes) on loaded (given .answer) .1))
+      (alike-finish (objectRead x) (patchesOf entries bytes) on (catalogueOf (objectRead x)))
 
   abbrev rows : List Row
   rows = functionRows (functionsAt loaded) (codeStart loaded) functions
@@ -81,24 +81,24 @@ module _ (d entries bytes : List ℕ) (on : Bool) (room : Room) (h : Summary) (e
   unfolding summaryOf
   count-is = ap (λ (s : Summary). s .functions) (given .summary) ∙ alike .functions
 
-  table-is : loadOf d entries bytes on room .lent .functions ≡ filled zeroRow (room .functions) rows
+  table-is : outcomeOn x entries bytes on room .lent .functions ≡ filled zeroRow (room .functions) rows
   unfolding filledTo imageOf
   table-is = ap (λ i. i .functions) (given .lent) ∙ ap (filled zeroRow (room .functions)) (alike .function-rows (functionsAt loaded) (codeStart loaded))
 
   -- the place of the function in the catalogue's order, or nothing
-  pub finds : (k : List ℕ) → foundIn (loadOf d entries bytes on room .lent .functions) (h .functions) k ≡ functionPlace k 0 functions
+  pub finds : (k : List ℕ) → foundIn (outcomeOn x entries bytes on room .lent .functions) (h .functions) k ≡ functionPlace k 0 functions
   finds k =
       ap (λ (t : List Row). foundIn t (h .functions) k) table-is
       ∙ ap (λ (m : ℕ). foundIn (filled zeroRow (room .functions) rows) m k) count-is
-      ∙ found-there (functionsAt loaded) (codeStart loaded) (room .functions) functions (functions-sorted (objectOf d)) k
+      ∙ found-there (functionsAt loaded) (codeStart loaded) (room .functions) functions (functions-sorted (objectRead x)) k
 
   -- no function of the catalogue has the key
-  pub finds-none : (k : List ℕ) → ((f : Function) → f ∈ functions → same (functionKey f) k ≡ false) → foundIn (loadOf d entries bytes on room .lent .functions) (h .functions) k ≡ Found.Nothing
+  pub finds-none : (k : List ℕ) → ((f : Function) → f ∈ functions → same (functionKey f) k ≡ false) → foundIn (outcomeOn x entries bytes on room .lent .functions) (h .functions) k ≡ Found.Nothing
   finds-none k other = finds k ∙ place-none k 0 functions other
 
   -- a function of the catalogue is found at a row of the table that has its section and address
   pub finds-row : (f : Function) → f ∈ functions
-      → (i : ℕ) × (foundIn (loadOf d entries bytes on room .lent .functions) (h .functions) (functionKey f) ≡ Found.At i) × (i < h .functions) × (rowKey (getD (loadOf d entries bytes on room .lent .functions) i zeroRow) ≡ functionKey f)
+      → (i : ℕ) × (foundIn (outcomeOn x entries bytes on room .lent .functions) (h .functions) (functionKey f) ≡ Found.At i) × (i < h .functions) × (rowKey (getD (outcomeOn x entries bytes on room .lent .functions) i zeroRow) ≡ functionKey f)
   finds-row f m =
       let (i, found, l, key) = place-some (functionKey f) (functionsAt loaded) (codeStart loaded) 0 functions f m refl in
       let z : 0 + i ≡ i = omega arith in

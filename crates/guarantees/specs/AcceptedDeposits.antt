@@ -1,9 +1,9 @@
--- What holds of a deposit that is accepted: it passed numbers 1 to 3, so its object is `Stated`, and its load is its object's.
-use mathlib.Core.Path.{_≡_, refl, ap}
+-- What holds of a deposit that passes numbers 1 to 3: its object is `Stated`, and its symbols' indexes are at least 1.
+use mathlib.Core.Path.{_≡_, ap}
 use mathlib.Core.Logic.{inl, inr}
-use mathlib.Core.Bool.{Bool, true, false, _&&_, not}
+use mathlib.Core.Bool.{true, _&&_, not}
 use mathlib.Core.List.{List, [], _∷_, _++_, map}
-use mathlib.Core.Option.{Option, none, some}
+use mathlib.Core.Option.{none}
 use Prim.Native.Nat.{ℕ, zero, suc, _*_, _<_, _/_}
 use native.Mathlib.Omega.{arith}
 use borrow.Author.Tests.{ltb-true, not-false}
@@ -12,20 +12,14 @@ use lib.ListN.{length, take, drop}
 use Rattle.model.specs.declared.Head.{Head}
 use Rattle.model.specs.declared.SectionRecord.{SectionRecord}
 use Rattle.model.specs.declared.SymbolRecord.{SymbolRecord}
-use Rattle.model.specs.declared.Refusal.{Refusal}
-use Rattle.model.specs.Bytes.{orElse, maybe, _∈_}
-use Rattle.model.specs.Object.{Symbol, Patch}
-use Rattle.model.specs.Catalogue.{Catalogue}
-use Rattle.model.specs.Contents.{catalogueOf}
+use Rattle.model.specs.Bytes.{orElse, _∈_}
+use Rattle.model.specs.Object.{Symbol}
 use Rattle.model.specs.Refusals.{noSection, noSymbol}
-use Rattle.model.specs.Patching.{refused, accepted, load}
-use Rattle.model.specs.Deposit.{frameOk, streamIn, streamOf, headOf, Stream, partsFrom, partsOf, all, allZero, headOk, lengthOk, sectionOk, symbolOk, relocationOk, risingFrom, recordsOk, streamRules, streamOk, sectionOf, symbolOf, statedBy, objectOf, hasBtf, ofDeposit, depositRefusal, loadDeposit}
+use Rattle.model.specs.Deposit.{frameOk, streamIn, streamOf, headOf, Stream, partsFrom, partsOf, all, allZero, headOk, lengthOk, sectionOk, symbolOk, relocationOk, risingFrom, recordsOk, streamRules, streamOk, sectionOf, symbolOf, statedBy, objectOf, hasBtf, ofDeposit, depositRefusal}
 use Rattle.guarantees.specs.OptionsAndLists.{orElse-none, refuse-none, both-true, map-∈}
 use Rattle.encoding.specs.Code.{all-drop, all-take}
 use Rattle.guarantees.specs.AcceptedObjects.{Rising, Stated}
 use Rattle.model.specs.Bytes.{AllBytes}
-use Rattle.guarantees.specs.WordsOfDemand3.{after}
-use Rattle.guarantees.specs.SecondHalf.{second-half}
 
 -- ---- what number 2 makes sure of
 
@@ -110,48 +104,12 @@ pub symbols-from-1 : (d : List ℕ) (y : Symbol) → streamOk d ≡ true → y �
 unfolding objectOf statedBy
 symbols-from-1 d y e m = let p = partsOf (streamOf d) in above-stated p 0 (p .symbols) y (deposit-ruled d e .symbols) m
 
--- ---- what is accepted has passed 1 to 3
+-- ---- what 1 to 3 don't refuse
 
-pub record Passed (d : List ℕ) : Type 0 where
-  pub frame : frameOk d ≡ true
-  pub stream : streamOk d ≡ true
-  pub btf : hasBtf (objectOf d) ≡ false
-
-passed : (d : List ℕ) → depositRefusal d ≡ none → Passed d
+pub deposit-passed : (d : List ℕ) → depositRefusal d ≡ none → streamOk d ≡ true
 unfolding depositRefusal
-passed d e =
-    let one = ofDeposit 1 (not (frameOk d)) in
+deposit-passed d e =
     let two = ofDeposit 2 (not (streamOk d)) in
     let three = ofDeposit 3 (hasBtf (objectOf d)) in
-    let (a, b) = orElse-none one (orElse two three) e in
-    let (f, g) = orElse-none two three b in
-    record {
-      frame = not-false _ (refuse-none _ 1 noSection noSymbol 0 a);
-      stream = not-false _ (refuse-none _ 2 noSection noSymbol 0 f);
-      btf = refuse-none _ 3 noSection noSymbol 0 g;
-    }
-
-pub deposit-accepted : (d : List ℕ) (ps : List Patch) (on : Bool) (c : Catalogue) → loadDeposit d ps on ≡ accepted c
-    → (depositRefusal d ≡ none) × (load (objectOf d) ps on ≡ accepted c)
-unfolding loadDeposit
-deposit-accepted d ps on c h = go (depositRefusal d) refl h
-  where
-    go : (r : Option Refusal) → depositRefusal d ≡ r → maybe r (load (objectOf d) ps on) (λ x. refused x) ≡ accepted c
-        → (depositRefusal d ≡ none) × (load (objectOf d) ps on ≡ accepted c)
-    go none e q = (e, q)
-    go (some r) e q = let z : _≡_ {A = ℕ} 0 1 = cc in let no : ⊥ = omega arith in absurd no
-
-pub deposit-passed : (d : List ℕ) (ps : List Patch) (on : Bool) (c : Catalogue) → loadDeposit d ps on ≡ accepted c → Passed d
-deposit-passed d ps on c h = passed d (deposit-accepted d ps on c h .0)
-
-load-again : (d : List ℕ) (c : Catalogue) → depositRefusal d ≡ none → load (objectOf d) [] false ≡ accepted c → loadDeposit d [] false ≡ accepted c
-unfolding loadDeposit
-load-again d c e h = rw e h
-
--- a deposit that is accepted with a patch list and rewriting on or off is accepted without either, and its catalogue is that one but for what `after` says
-pub deposit-after : (d : List ℕ) (ps : List Patch) (on : Bool) (c : Catalogue) → loadDeposit d ps on ≡ accepted c
-    → (loadDeposit d [] false ≡ accepted (catalogueOf (objectOf d))) × (c ≡ after (objectOf d) ps on (catalogueOf (objectOf d)))
-deposit-after d ps on c h =
-    let (e, k) = deposit-accepted d ps on c h in
-    let (p, q) = second-half (objectOf d) ps on c k in
-    (load-again d (catalogueOf (objectOf d)) e p, q)
+    let (a, b) = orElse-none (ofDeposit 1 (not (frameOk d))) (orElse two three) e in
+    not-false _ (refuse-none _ 2 noSection noSymbol 0 (orElse-none two three b .0))

@@ -28,7 +28,7 @@ abbrev pub Rising : ℕ → List Section → Type 0
 Rising n [] = Unit {0}
 Rising n (s ∷ ss) = (n < s .index .0) × Rising (s .index .0) ss
 
--- what number 2 makes sure of in an object that a deposit states: the section indexes rise from 1 on, and data are bytes
+-- what holds of the object that a deposit states, by number 2, and of a file's: the section indexes rise from 1 on, and data are bytes
 pub record Stated (o : Object) : Type 0 where
   pub rising : Rising 0 (o .sections)
   pub bytes : (s : Section) → s ∈ o .sections → AllBytes (s .bytes)

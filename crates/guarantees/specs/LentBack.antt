@@ -22,19 +22,18 @@ use Rattle.model.specs.Catalogue.{Function, Map, Catalogue, functionKey, mapKey
 use Rattle.model.specs.Symbols.{liesIn, symbolsOf, programSymbols, Stop, walkOf}
 use Rattle.model.specs.Contents.{functionAt, programFunction, textFunction, functionsOf, wordsOf, recordOf, legacyMap, dataWords, dataMap, mapsOf, catalogueOf}
 use Rattle.model.specs.Patching.{Verdict, refused, accepted}
-use Rattle.model.specs.Deposit.{objectOf, loadDeposit}
 use Rattle.model.specs.PatchList.{patchesOf}
-use Rattle.model.specs.Lent.{summaryOf, Lent, imageOf, fitsIn, filled, zeroRow, filledTo, zeroed, outcomeIfFits, outcomeIn, loadOf}
+use Rattle.model.specs.Lent.{summaryOf, Lent, imageOf, fitsIn, filled, zeroRow, filledTo, zeroed, outcomeIfFits, outcomeIn}
 use Rattle.model.specs.declared.Room.{Room}
 use Rattle.model.specs.ReadBack.{readBack}
 use Rattle.guarantees.specs.OptionsAndLists.{map-∈, each-∈, both-true}
 use Rattle.guarantees.specs.TableLaws.{keep-∈, table-∈}
 use Rattle.model.specs.Bytes.{AllBytes}
-use Rattle.guarantees.specs.WordsOfDemand3.{instructionAfter, functionAfter, mapAfter, after}
+use Rattle.guarantees.specs.WordsOfDemand3.{Input, inputBytes, objectRead, verdictOn, outcomeOn, instructionAfter, functionAfter, mapAfter, after}
 use Rattle.encoding.specs.Code.{all-drop, all-take}
 use Rattle.guarantees.specs.ReadBackImage.{Within, Ranged, Numbered, Sound, read-back-filled}
 use Rattle.guarantees.specs.FirstHalf.{maps-∈}
-use Rattle.guarantees.specs.AcceptedDeposits.{deposit-stated, symbols-from-1, deposit-passed, deposit-after}
+use Rattle.guarantees.specs.AcceptedInputs.{outcome-is, input-accepted, input-stated, input-symbols, input-after}
 
 -- ---- instructions read from bytes
 
@@ -179,52 +178,59 @@ after-sound o ps on c h =
     }
 
 -- every catalogue that a load gives is sound
-pub loaded-sound : (d : List ℕ) (ps : List Patch) (on : Bool) (c : Catalogue) → AllBytes d → loadDeposit d ps on ≡ accepted c → Sound c
-loaded-sound d ps on c y h =
-    let st = deposit-passed d ps on c h .stream in
-    let pl : Plain (objectOf d) = record { bytes = deposit-stated d y st .bytes; symbols = λ z m. symbols-from-1 d z st m } in
-    rw (deposit-after d ps on c h .1) (after-sound (objectOf d) ps on (catalogueOf (objectOf d)) (catalogue-sound (objectOf d) pl))
+pub loaded-sound : (x : Input) (ps : List Patch) (on : Bool) (c : Catalogue) → AllBytes (inputBytes x) → verdictOn x ps on ≡ accepted c → Sound c
+loaded-sound x ps on c y h =
+    let o = objectRead x in
+    let e = input-accepted x ps on c h .0 in
+    let pl : Plain o = record { bytes = input-stated x y e .bytes; symbols = λ z m. input-symbols x z e m } in
+    rw (input-after x ps on c h .1) (after-sound o ps on (catalogueOf o) (catalogue-sound o pl))
 
 -- ---- what is lent back
 
 -- where the answer is a catalogue's: which, that it fitted, and what the lent tables hold
-pub record Given (d entries bytes : List ℕ) (on : Bool) (room : Room) (h : Summary) : Type 0 where
+pub record Given (x : Input) (entries bytes : List ℕ) (on : Bool) (room : Room) (h : Summary) : Type 0 where
   pub catalogue : Catalogue
-  pub answer : loadDeposit d (patchesOf entries bytes) on ≡ accepted catalogue
+  pub answer : verdictOn x (patchesOf entries bytes) on ≡ accepted catalogue
   pub fits : fitsIn room (imageOf catalogue) ≡ true
   pub summary : h ≡ summaryOf catalogue
-  pub lent : loadOf d entries bytes on room .lent ≡ filledTo room (imageOf catalogue)
+  pub lent : outcomeOn x entries bytes on room .lent ≡ filledTo room (imageOf catalogue)
 
-pub given-is : (d entries bytes : List ℕ) (on : Bool) (room : Room) (h : Summary) → loadOf d entries bytes on room .reply ≡ Answer.Accepted h → Given d entries bytes on room h
-unfolding loadOf
-given-is d entries bytes on room h q = go (loadDeposit d (patchesOf entries bytes) on) refl q
+pub given-is : (x : Input) (entries bytes : List ℕ) (on : Bool) (room : Room) (h : Summary) → outcomeOn x entries bytes on room .reply ≡ Answer.Accepted h
+    → Given x entries bytes on room h
+given-is x entries bytes on room h q = go (verdictOn x (patchesOf entries bytes) on) refl (ap (λ z. z .reply) (sym (outcome-is x entries bytes on room)) ∙ q)
   where
-    fit : (c : Catalogue) (b : Bool) → loadDeposit d (patchesOf entries bytes) on ≡ accepted c → fitsIn room (imageOf c) ≡ b → outcomeIfFits room c b .reply ≡ Answer.Accepted h → Given d entries bytes on room h
+    fit : (c : Catalogue) (b : Bool) → verdictOn x (patchesOf entries bytes) on ≡ accepted c → fitsIn room (imageOf c) ≡ b
+        → outcomeIfFits room c b .reply ≡ Answer.Accepted h → Given x entries bytes on room h
     fit c true e f q =
         let s : h ≡ summaryOf c = cc in
-        record { catalogue = c; answer = e; fits = f; summary = s; lent = ap (λ x. outcomeIn room x .lent) e ∙ ap (λ b. outcomeIfFits room c b .lent) f }
+        let l : outcomeOn x entries bytes on room .lent ≡ filledTo room (imageOf c) =
+        ap (λ z. z .lent) (outcome-is x entries bytes on room) ∙ ap (λ z. outcomeIn room z .lent) e ∙ ap (λ b. outcomeIfFits room c b .lent) f in
+        record { catalogue = c; answer = e; fits = f; summary = s; lent = l }
     fit c false e f q = let z : _≡_ {A = ℕ} 0 1 = cc in let no : ⊥ = omega arith in absurd no
 
-    go : (a : Verdict) → loadDeposit d (patchesOf entries bytes) on ≡ a → outcomeIn room a .reply ≡ Answer.Accepted h → Given d entries bytes on room h
+    go : (a : Verdict) → verdictOn x (patchesOf entries bytes) on ≡ a → outcomeIn room a .reply ≡ Answer.Accepted h → Given x entries bytes on room h
     go (refused r) e q = let z : _≡_ {A = ℕ} 0 1 = cc in let no : ⊥ = omega arith in absurd no
     go (accepted c) e q = fit c (fitsIn room (imageOf c)) e refl q
 
 -- The catalogue is recovered from the answer's values and what the call left in the lent tables
-pub lent-read-back : (d entries bytes : List ℕ) (on : Bool) (room : Room) (h : Summary) → AllBytes d → loadOf d entries bytes on room .reply ≡ Answer.Accepted h
-    → loadDeposit d (patchesOf entries bytes) on ≡ accepted (readBack h (loadOf d entries bytes on room .lent))
-lent-read-back d entries bytes on room h y q =
-    let g = given-is d entries bytes on room h q in
+pub lent-read-back : (x : Input) (entries bytes : List ℕ) (on : Bool) (room : Room) (h : Summary) → AllBytes (inputBytes x)
+    → outcomeOn x entries bytes on room .reply ≡ Answer.Accepted h
+    → verdictOn x (patchesOf entries bytes) on ≡ accepted (readBack h (outcomeOn x entries bytes on room .lent))
+lent-read-back x entries bytes on room h y q =
+    let g = given-is x entries bytes on room h q in
     let c = g .catalogue in
-    let e : readBack h (loadOf d entries bytes on room .lent) ≡ c =
-    (λ k. readBack (g .summary k) (g .lent k)) ∙ read-back-filled c room (loaded-sound d (patchesOf entries bytes) on c y (g .answer)) in
+    let e : readBack h (outcomeOn x entries bytes on room .lent) ≡ c =
+    (λ k. readBack (g .summary k) (g .lent k)) ∙ read-back-filled c room (loaded-sound x (patchesOf entries bytes) on c y (g .answer)) in
     g .answer ∙ ap accepted (sym e)
 
--- equal answers and lent contents mean equal catalogues
-pub one-catalogue : (d entries bytes d₂ entries₂ bytes₂ : List ℕ) (on on₂ : Bool) (room room₂ : Room) (h : Summary) → AllBytes d → AllBytes d₂
-    → loadOf d entries bytes on room .reply ≡ Answer.Accepted h → loadOf d₂ entries₂ bytes₂ on₂ room₂ .reply ≡ Answer.Accepted h → loadOf d entries bytes on room .lent ≡ loadOf d₂ entries₂ bytes₂ on₂ room₂ .lent
-    → loadDeposit d (patchesOf entries bytes) on ≡ loadDeposit d₂ (patchesOf entries₂ bytes₂) on₂
-one-catalogue d entries bytes d₂ entries₂ bytes₂ on on₂ room room₂ h y z p q l =
-    lent-read-back d entries bytes on room h y p ∙ ap (λ x. accepted (readBack h x)) l ∙ sym (lent-read-back d₂ entries₂ bytes₂ on₂ room₂ h z q)
+-- equal answers and lent contents mean equal catalogues, of a deposit and a file too
+pub one-catalogue : (a b : Input) (entries bytes entries₂ bytes₂ : List ℕ) (on on₂ : Bool) (room room₂ : Room) (h : Summary)
+    → AllBytes (inputBytes a) → AllBytes (inputBytes b)
+    → outcomeOn a entries bytes on room .reply ≡ Answer.Accepted h → outcomeOn b entries₂ bytes₂ on₂ room₂ .reply ≡ Answer.Accepted h
+    → outcomeOn a entries bytes on room .lent ≡ outcomeOn b entries₂ bytes₂ on₂ room₂ .lent
+    → verdictOn a (patchesOf entries bytes) on ≡ verdictOn b (patchesOf entries₂ bytes₂) on₂
+one-catalogue a b entries bytes entries₂ bytes₂ on on₂ room room₂ h y z p q l =
+    lent-read-back a entries bytes on room h y p ∙ ap (λ x. accepted (readBack h x)) l ∙ sym (lent-read-back b entries₂ bytes₂ on₂ room₂ h z q)
 
 -- ---- the lent lengths stay
 
@@ -276,9 +282,8 @@ filled-lengths room i e =
       bytes = filled-length 0 (room .bytes) (i .bytes) e₆;
     }
 
-pub lent-lengths : (d entries bytes : List ℕ) (on : Bool) (room : Room) → Lengths room (loadOf d entries bytes on room .lent)
-unfolding loadOf
-lent-lengths d entries bytes on room = go (loadDeposit d (patchesOf entries bytes) on)
+pub lent-lengths : (x : Input) (entries bytes : List ℕ) (on : Bool) (room : Room) → Lengths room (outcomeOn x entries bytes on room .lent)
+lent-lengths x entries bytes on room = rw (outcome-is x entries bytes on room) (go (verdictOn x (patchesOf entries bytes) on))
   where
     fit : (c : Catalogue) (b : Bool) → fitsIn room (imageOf c) ≡ b → Lengths room (outcomeIfFits room c b .lent)
     fit c true f = filled-lengths room (imageOf c) f

@@ -14,4 +14,6 @@ pub mod TextJoined
 pub mod ReadBackImage
 pub mod FirstHalf
 pub mod AcceptedDeposits
+pub mod AcceptedFiles
+pub mod AcceptedInputs
 pub mod RefusalPlaces

@@ -17,7 +17,7 @@ use Rattle.model.specs.Instruction.{eight, unsigned}
 use Rattle.model.specs.Lent.{placed, sectionRow, programRow, functionRow, mapRow, relocationRow, bytesOf, sectionsAt, programsAt, functionsAt, codeStart, mapsAt, ownStart, summaryOf, imageOf, fitsIn, filledTo, zeroed, refusedOutcome, tooSmall, Outcome, loadOf}
 use Rattle.model.specs.declared.Room.{Room}
 use Rattle.model.specs.ReadBack.{readBack}
-use Rattle.guarantees.specs.WordsOfDemand3.{FirstHalf, after}
+use Rattle.guarantees.specs.WordsOfDemand3.{Input, FirstHalf, after}
 use Rattle.guarantees.specs.Demand3.{demand-3-first, second-lent}
 use Rattle.guarantees.specs.ProvisosDecided.{isNamed, distinct, noneNamed, mapsFree, isFair, fair-is, allBytes, allBytes-is}
 use Rattle.guarantees.specs.ProvisosNeeded.{computedLoad}
@@ -69,7 +69,7 @@ same-catalogue : FirstHalf (objectOf (deposit 1)) (objectOf (deposit 2)) (catalo
     × FirstHalf (objectOf (deposit 2)) (objectOf (deposit 1)) (catalogueOf (objectOf (deposit 1)))
 unfolding runCall deposit isNamed distinct noneNamed mapsFree isFair allBytes
 same-catalogue =
-    demand-3-first (deposit 1) (deposit 2) (catalogueOf (objectOf (deposit 1))) (allBytes-is (deposit 1) refl) (allBytes-is (deposit 2) refl) refl refl
+    demand-3-first (Input.deposit (deposit 1)) (Input.deposit (deposit 2)) (catalogueOf (objectOf (deposit 1))) (allBytes-is (deposit 1) refl) (allBytes-is (deposit 2) refl) refl refl
     (fair-is (objectOf (deposit 1)) refl)
     (fair-is (objectOf (deposit 2)) refl)
 
@@ -92,7 +92,7 @@ patched-call : (h : Summary) × (loadOf (deposit 1) entries lentBytes true (room
 unfolding runCall deposit allBytes
 patched-call =
     let h : Summary = summaryOf (finish (objectOf (deposit 1)) (patchesOf entries lentBytes) true (catalogueOf (objectOf (deposit 1)))) in
-    (h, refl, second-lent (deposit 1) entries lentBytes true (room 63) h (allBytes-is (deposit 1) refl) refl .1)
+    (h, refl, second-lent (Input.deposit (deposit 1)) entries lentBytes true (room 63) h (allBytes-is (deposit 1) refl) refl .1)
 
 -- the two deposits leave the same in what was lent
 same-call : loadOf (deposit 1) entries lentBytes true (room 63) ≡ loadOf (deposit 2) entries lentBytes true (room 63)

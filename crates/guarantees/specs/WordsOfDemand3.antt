@@ -1,4 +1,5 @@
--- The words of demand 3: its provisos (`Fair`), what it says of sections (`FirstHalf`), and what a patch list and rewriting come to (`after`).
+-- The words of demand 3: what is read (`Input`), its provisos (`Fair`), what it says of sections (`FirstHalf`), and what a patch list and rewriting come to
+-- (`after`).
 use mathlib.Core.Path.{_≡_}
 use mathlib.Core.Logic.{_⊎_}
 use mathlib.Core.Bool.{Bool, cond, _&&_}
@@ -12,6 +13,7 @@ use Rattle.lists.specs.Tab.{tab}
 use Rattle.model.specs.declared.SectionIndex.{SectionIndex}
 use Rattle.model.specs.declared.EbpfSectionKind.{EbpfSectionKind as Kind}
 use Rattle.model.specs.declared.BpfInsn.{BpfInsn}
+use Rattle.model.specs.declared.Room.{Room}
 use Rattle.model.specs.Bytes.{keep, each, orElse, maybe, part, _∈_}
 use Rattle.model.specs.Object.{Section, Symbol, Object, Patch}
 use Rattle.model.specs.SectionKind.{kindOf}
@@ -20,7 +22,37 @@ use Rattle.model.specs.Catalogue.{Function, Map, Catalogue}
 use Rattle.model.specs.Symbols.{liesIn, symbolsOf, programSymbols, definedText}
 use Rattle.model.specs.Contents.{functionAt, programFunction}
 use Rattle.model.specs.Refusals.{bearers}
-use Rattle.model.specs.Lent.{functionCode}
+use Rattle.model.specs.Patching.{Verdict}
+use Rattle.model.specs.Deposit.{objectOf, loadDeposit}
+use Rattle.model.specs.Lent.{functionCode, Outcome, loadOf}
+use Rattle.model.specs.Elf.{elfObjectOf}
+use Rattle.model.specs.ElfRefusals.{loadElf, loadElfOf}
+
+-- ---- what is read
+
+-- 'deposits' of document 01, and 'the object file itself' of paper 1, by their bytes
+pub data Input : Type 0 where
+  deposit : List ℕ → Input
+  file : List ℕ → Input
+
+abbrev pub inputBytes : Input → List ℕ
+inputBytes (Input.deposit d) = d
+inputBytes (Input.file f) = f
+
+-- the object that it states
+abbrev pub objectRead : Input → Object
+objectRead (Input.deposit d) = objectOf d
+objectRead (Input.file f) = elfObjectOf f
+
+-- its load, with a patch list, and rewriting on or off
+abbrev pub verdictOn : Input → List Patch → Bool → Verdict
+verdictOn (Input.deposit d) ps on = loadDeposit d ps on
+verdictOn (Input.file f) ps on = loadElf f ps on
+
+-- its call, with a lent patch list (entries over bytes), rewriting on or off, and the room that is lent
+abbrev pub outcomeOn : Input → List ℕ → List ℕ → Bool → Room → Outcome
+outcomeOn (Input.deposit d) entries bytes on room = loadOf d entries bytes on room
+outcomeOn (Input.file f) entries bytes on room = loadElfOf f entries bytes on room
 
 -- ---- the first half
 

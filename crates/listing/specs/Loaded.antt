@@ -20,6 +20,7 @@ use Rattle.model.specs.Listing.{catalogueText}
 use Rattle.model.specs.ReadBack.{functionRead, readBack}
 use Rattle.lists.specs.Tests.{both-true}
 use Rattle.catalogue_laws.specs.Placed.{length-joined}
+use Rattle.guarantees.specs.WordsOfDemand3.{Input}
 use Rattle.guarantees.specs.LentBack.{Given, given-is, lent-lengths}
 use Rattle.rows_numbers.specs.Flat.{length-flat}
 use Rattle.listing.specs.Numbers.{Flat}
@@ -53,8 +54,8 @@ pub record CountsWithin (room : Room) (h : Summary) : Type 0 where
   pub bytes : h .bytes ≤ room .bytes
 
 module _ (d entries patches : List ℕ) (on : Bool) (room : Room) (h : Summary) (accepted : loadOf d entries patches on room .reply ≡ Answer.Accepted h) where
-  given : Given d entries patches on room h
-  given = given-is d entries patches on room h accepted
+  given : Given (Input.deposit d) entries patches on room h
+  given = given-is (Input.deposit d) entries patches on room h accepted
 
   pub within : CountsWithin room h
   unfolding fitsIn imageOf summaryOf
@@ -89,7 +90,7 @@ module _ (d entries patches : List ℕ) (on : Bool) (room : Room) (h : Summary) 
   module _ (programs functions maps bytes : List ℕ) (flat : Flat (loadOf d entries patches on room .lent) programs functions maps bytes) where
     pub rows-fit : RowsFit h programs functions maps
     rows-fit =
-        let n = lent-lengths d entries patches on room in
+        let n = lent-lengths (Input.deposit d) entries patches on room in
         let p : length programs ≡ room .programs = ap length (flat .same-programs) ∙ n .programs in
         let m : length maps ≡ room .maps = ap length (flat .same-maps) ∙ n .maps in
         let f : length functions ≡ length (loadOf d entries patches on room .lent .functions) * 7 + length (flat .rest) =
@@ -101,6 +102,6 @@ module _ (d entries patches : List ℕ) (on : Bool) (room : Room) (h : Summary) 
     pub flat-is : flatText h programs functions maps bytes ≡ catalogueText (readBack h (loadOf d entries patches on room .lent))
     unfolding flatText topText catalogueText readBack
     flat-is =
-        let g : h .functions ≤ length (loadOf d entries patches on room .lent .functions) = omega (arith, within .functions, lent-lengths d entries patches on room .functions) in
+        let g : h .functions ≤ length (loadOf d entries patches on room .lent .functions) = omega (arith, within .functions, lent-lengths (Input.deposit d) entries patches on room .functions) in
         rw (flat .same-programs, flat .same-functions, flat .same-maps, flat .same-bytes, functions-read (loadOf d entries patches on room .lent .bytes) (h .functions) (loadOf d entries patches on room .lent .functions) (flat .rest) g)
         (simp append-assoc)

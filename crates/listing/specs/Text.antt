@@ -14,6 +14,7 @@ use Rattle.model.specs.Lent.{Lent, loadOf, summaryOf, bytesOf}
 use Rattle.model.specs.declared.Room.{Room}
 use Rattle.model.specs.Listing.{answerText, catalogueText, refusalText, tooLong, textOf, listingOf}
 use Rattle.model.specs.ReadBack.{readBack}
+use Rattle.guarantees.specs.WordsOfDemand3.{Input}
 use Rattle.guarantees.specs.LentBack.{given-is, lent-read-back}
 use Rattle.listing.specs.Numbers.{Flat}
 use Rattle.listing_text.specs.Flat.{flatAnswer, AnswerFits}
@@ -38,10 +39,10 @@ module _ (d entries patches : List ℕ) (on : Bool) (room : Room) where
         → length (catalogueText (readBack h (loadOf d entries patches on room .lent))) ≤ h .bytes + h .programs * 67 + h .functions * 73 + h .maps * 68 + 38
     unfolding readBack summaryOf
     accepted-most h e =
-        let g = given-is d entries patches on room h e in
+        let g = given-is (Input.deposit d) entries patches on room h e in
         let c : Catalogue = g .catalogue in
         let i : Lent = loadOf d entries patches on room .lent in
-        let back : readBack h i ≡ c = let a = lent-read-back d entries patches on room h small e in let b = g .answer in cc in
+        let back : readBack h i ≡ c = let a = lent-read-back (Input.deposit d) entries patches on room h small e in let b = g .answer in cc in
         let n₁ : h .functions ≡ length (c .functions) = ap (λ x. x .functions) (g .summary) in
         let n₂ : h .maps ≡ length (c .maps) = ap (λ x. x .maps) (g .summary) in
         let n₃ : h .bytes ≡ length (bytesOf c) = ap (λ x. x .bytes) (g .summary) in
