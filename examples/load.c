@@ -1,8 +1,9 @@
-/* load FILE: loads a deposit with the static library, and prints its programs, functions and maps. Build it at the repository's top:
+/* load FILE: loads an ELF file or a deposit with the static library, and prints its programs, functions and maps. Build it at the repository's top:
  *     rt staticlib buncoyew && cc -Iinclude examples/load.c target/staticlib/libbuncoyew.a -o load */
 #include <inttypes.h>
 #include <stdio.h>
 #include <stdlib.h>
+#include <string.h>
 
 #include "buncoyew.h"
 
@@ -43,15 +44,16 @@ int main(int count, char **words) {
         return 2;
     }
     size_t length;
-    uint8_t *deposit = contents(words[1], &length);
-    /* A section's record has 48 bytes and a symbol's 40, so there are at most so many rows; relocations and bytes can be more. */
-    size_t rows = length / 40, space = length * 8;
+    uint8_t *input = contents(words[1], &length);
+    /* A symbol has 24 bytes in a file and 40 in a deposit, a section more, so there are at most so many rows; relocations and bytes can be more. */
+    size_t rows = length / 24, space = length * 8;
     uint64_t *sections = room(rows * SECTION, 8), *programs = room(rows * PROGRAM, 8), *maps = room(rows * MAP, 8);
     uint64_t *relocations = room(rows * RELOCATION, 8), no_entries[1];
     buncoyew_function *functions = room(rows, sizeof *functions);
     uint8_t *bytes = room(space, 1), no_patches[1];
     buncoyew_answer a;
-    buncoyew_load(deposit, length, no_entries, 0, no_patches, 0, true, sections, rows * SECTION, programs, rows * PROGRAM,
+    bool elf = length >= 4 && memcmp(input, "\177ELF", 4) == 0;
+    (elf ? buncoyew_load_elf : buncoyew_load)(input, length, no_entries, 0, no_patches, 0, true, sections, rows * SECTION, programs, rows * PROGRAM,
         functions, rows, maps, rows * MAP, relocations, rows * RELOCATION, bytes, space, &a);
     if (a.number != 0) {
         printf("refused %" PRIu32 " %" PRIu32 " %" PRIu32 "\n", a.number, a.section, a.symbol);

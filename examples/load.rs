@@ -1,4 +1,4 @@
-// load FILE: loads a deposit with the static library, and prints its programs, functions and maps. Build it at the repository's top:
+// load FILE: loads an ELF file or a deposit with the static library, and prints its programs, functions and maps. Build it at the repository's top:
 //     rt staticlib buncoyew && rustc -O examples/load.rs -L target/staticlib -l static=buncoyew
 use std::process::exit;
 
@@ -38,21 +38,26 @@ extern "C" {
         deposit: *const u8, _: usize, entries: *const u64, _: usize, patches: *const u8, _: usize, rewrite: bool,
         sections: *mut u64, _: usize, programs: *mut u64, _: usize, functions: *mut Function, _: usize,
         maps: *mut u64, _: usize, relocations: *mut u64, _: usize, bytes: *mut u8, _: usize, answer: *mut Answer);
+    fn buncoyew_load_elf(
+        file: *const u8, _: usize, entries: *const u64, _: usize, patches: *const u8, _: usize, rewrite: bool,
+        sections: *mut u64, _: usize, programs: *mut u64, _: usize, functions: *mut Function, _: usize,
+        maps: *mut u64, _: usize, relocations: *mut u64, _: usize, bytes: *mut u8, _: usize, answer: *mut Answer);
     fn buncoyew_find(functions: *const Function, _: usize, count: usize, section: u32, address: u64) -> u64;
 }
 
 #[rustfmt::skip]
 fn main() {
     let Some(path) = std::env::args().nth(1) else { eprintln!("usage: load FILE"); exit(2) };
-    let deposit = std::fs::read(&path).unwrap_or_else(|e| { eprintln!("{path}: {e}"); exit(2) });
-    // A section's record has 48 bytes and a symbol's 40, so there are at most so many rows; relocations and bytes can be more.
-    let rows = deposit.len() / 40;
+    let input = std::fs::read(&path).unwrap_or_else(|e| { eprintln!("{path}: {e}"); exit(2) });
+    // A symbol has 24 bytes in a file and 40 in a deposit, a section more, so there are at most so many rows; relocations and bytes can be more.
+    let rows = input.len() / 24;
     let (mut sections, mut programs, mut functions) = (vec![0; rows * 4], vec![0; rows * 7], vec![Function::default(); rows]);
-    let (mut maps, mut relocations, mut bytes) = (vec![0; rows * 27], vec![0; rows * 4], vec![0; deposit.len() * 8]);
+    let (mut maps, mut relocations, mut bytes) = (vec![0; rows * 27], vec![0; rows * 4], vec![0; input.len() * 8]);
     let (entries, patches, mut a) = ([], [], Answer::default());
+    let load = if input.starts_with(b"\x7fELF") { buncoyew_load_elf } else { buncoyew_load };
     // SAFETY: each pointer is a slice's, with its length, and what is lent to be written is lent once.
     unsafe {
-        buncoyew_load(deposit.as_ptr(), deposit.len(), entries.as_ptr(), 0, patches.as_ptr(), 0, true,
+        load(input.as_ptr(), input.len(), entries.as_ptr(), 0, patches.as_ptr(), 0, true,
             sections.as_mut_ptr(), sections.len(), programs.as_mut_ptr(), programs.len(), functions.as_mut_ptr(), functions.len(),
             maps.as_mut_ptr(), maps.len(), relocations.as_mut_ptr(), relocations.len(), bytes.as_mut_ptr(), bytes.len(), &mut a);
     }

@@ -1,5 +1,5 @@
-/* Buncoyew's load call, and the look-up in its function table. `rt staticlib buncoyew` writes target/staticlib/libbuncoyew.a.
- * docs/CATALOGUE.md sets out every element that a load writes, the patch list, and how much stack the call takes. */
+/* Buncoyew's load calls, and the look-up in a function table. `rt staticlib buncoyew` writes target/staticlib/libbuncoyew.a.
+ * docs/CATALOGUE.md sets out every element that a load writes, the patch list, and how much stack a call takes. */
 #ifndef BUNCOYEW_H
 #define BUNCOYEW_H
 
@@ -27,7 +27,7 @@ typedef struct buncoyew_function {
 } buncoyew_function;
 
 typedef struct buncoyew_answer {
-    uint32_t number;      /* 0: accepted; else why the deposit goes back, 1 to 24, and all but the three places is 0 */
+    uint32_t number;      /* 0: accepted; else why the input goes back, 1 to 26, and all but the three places is 0 */
     uint32_t section;     /* the section, symbol and patch entry that a refusal names, else 0 */
     uint32_t symbol;
     uint32_t order;       /* 0 little-endian, 1 big-endian */
@@ -47,6 +47,20 @@ typedef struct buncoyew_answer {
  * relocations 4. No pointer is null, also where its length is 0, and nothing that is written overlaps anything else. */
 void buncoyew_load(
     const uint8_t *deposit, size_t deposit_length,
+    const uint64_t *entries, size_t entries_length,
+    const uint8_t *patches, size_t patches_length,
+    bool rewrite,
+    uint64_t *sections, size_t sections_length,
+    uint64_t *programs, size_t programs_length,
+    buncoyew_function *functions, size_t functions_length,
+    uint64_t *maps, size_t maps_length,
+    uint64_t *relocations, size_t relocations_length,
+    uint8_t *bytes, size_t bytes_length,
+    buncoyew_answer *answer);
+
+/* The same of an ELF file: a 64-bit relocatable object for BPF, of either byte order, as a compiler writes it. What is not one is 25. */
+void buncoyew_load_elf(
+    const uint8_t *file, size_t file_length,
     const uint64_t *entries, size_t entries_length,
     const uint8_t *patches, size_t patches_length,
     bool rewrite,
