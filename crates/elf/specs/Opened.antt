@@ -1,14 +1,12 @@
 -- What opening a file that was checked answers, and what its index is good for.
-use mathlib.Core.Path.{_≡_, refl, sym, ap, _∙_}
-use mathlib.Core.Bool.{Bool, true, false, cond, _&&_, not}
+use mathlib.Core.Path.{_≡_, refl, _∙_}
+use mathlib.Core.Bool.{Bool, true, false, cond, _&&_}
 use mathlib.Core.List.{List}
-use mathlib.Core.Option.{Option, none, some}
 use Prim.Native.Nat.{ℕ, _+_, _*_, _≤_}
 use native.Mathlib.Omega.{arith}
-use Rattle.lists.specs.Tests.{true-not-false}
 use Rattle.model.specs.declared.Refusal.{Refusal}
-use Rattle.model.specs.Bytes.{maybe, orElse}
-use Rattle.model.specs.Deposit.{hasBtf, ofDeposit}
+use Rattle.model.specs.Bytes.{maybe}
+use Rattle.model.specs.Deposit.{hasBtf}
 use Rattle.model.specs.Elf.{fileOf, elfObjectOf}
 use Rattle.model.specs.ElfRefusals.{sectionNamesOk, kindOk, rulesOk, elfRefusal}
 use Rattle.object_view.specs.declared.Opened.{Opened}
@@ -20,7 +18,7 @@ use Rattle.elf_layout.specs.declared.Layout.{Layout}
 use Rattle.elf_layout.specs.declared.FileCheck.{FileCheck}
 use Rattle.elf_layout.specs.Layout.{tablesOk, elfView, layoutOf, fileRefusal, checkedFile}
 use Rattle.elf_object.specs.Inside.{tables-ruled, sections-few, symbols-few, relocations-few}
-use Rattle.elf.specs.Names.{symbolNamesOk, rules-by-names}
+use Rattle.elf.specs.Names.{symbolsOk, rules-by-names}
 
 -- how many numbers the index of a file has
 abbrev pub layoutLength : Layout → ℕ
@@ -89,11 +87,11 @@ checked-most f (FileCheck.Layout l) e =
 
 module _ (f : List ℕ) (l : Layout) (p : Passes f l) where
   -- by the names
-  pub opened-names : (n m : Bool) → n ≡ sectionNamesOk f (fileOf f) → m ≡ symbolNamesOk f (fileOf f) → (n && m) ≡ false → Opened.Refused (fileRefusal 26) ≡ openedFile f
+  pub opened-names : (n m : Bool) → n ≡ sectionNamesOk f (fileOf f) → m ≡ symbolsOk f (fileOf f) → (n && m) ≡ false → Opened.Refused (fileRefusal 26) ≡ openedFile f
   unfolding openedFile elfRefusal
   opened-names n m a b e = rw (p .kind, rules-by-names f (fileOf f), p .tables, ← a, ← b, e)
 
-  pub names-rules : (n m : Bool) → n ≡ sectionNamesOk f (fileOf f) → m ≡ symbolNamesOk f (fileOf f) → (n && m) ≡ true → rulesOk f (fileOf f) ≡ true
+  pub names-rules : (n m : Bool) → n ≡ sectionNamesOk f (fileOf f) → m ≡ symbolsOk f (fileOf f) → (n && m) ≡ true → rulesOk f (fileOf f) ≡ true
   names-rules n m a b e = rules-by-names f (fileOf f) ∙ rw (p .tables, ← a, ← b, e)
 
   -- by number 3

@@ -22,13 +22,13 @@ use Rattle.elf_layout.specs.Layout.{elfView, layoutOf, fileRefusal, checkedFile
 use Rattle.elf_object.specs.Inside.{tables-ruled}
 use Rattle.elf_object.specs.Indexed.{Indexed}
 use Rattle.elf_object.specs.Object.{readable-elf, object-elf}
-use Rattle.elf.specs.Names.{symbolNamesOk}
+use Rattle.elf.specs.Names.{symbolsOk}
 use Rattle.elf.specs.Index.{sectionPart, symbolPart, relocationPart, length-sections, length-symbols, indexed}
 use Rattle.elf.specs.Opened.{layoutLength, openedFile, FileOpened, Passes, refused-then, opened-names, names-rules, opened-btf, opened-view}
 
 -- the names are fine or not; where they are, the index holds what it should
 pub record Indexes (f : List ℕ) (r : Bool) (t : List ℕ) : Type 0 where
-  pub fine : r ≡ (sectionNamesOk f (fileOf f) && symbolNamesOk f (fileOf f))
+  pub fine : r ≡ (sectionNamesOk f (fileOf f) && symbolsOk f (fileOf f))
   pub holds : r ≡ true → Indexed f t
 
 count-of : (f : List ℕ) → layoutOf f .view .sections ≡ headersIn f .sections
@@ -136,7 +136,7 @@ abbrev pub SectionNames : List ℕ → Bool → List ℕ → Type 0
 SectionNames f r A = (r ≡ sectionNamesOk f (fileOf f)) × (r ≡ true → A ≡ sectionPart f)
 
 abbrev pub SymbolNames : List ℕ → Bool → List ℕ → Type 0
-SymbolNames f q B = (q ≡ symbolNamesOk f (fileOf f)) × (q ≡ true → B ≡ symbolPart f)
+SymbolNames f q B = (q ≡ symbolsOk f (fileOf f)) × (q ≡ true → B ≡ symbolPart f)
 
 -- a name breaks a rule
 module _ (f : List ℕ) (r : Bool) (A x : List ℕ) (names : SectionNames f r A) where

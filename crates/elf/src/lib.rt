@@ -9,7 +9,7 @@ ghost use Rattle.model.specs.ElfRefusals.{sectionNamesOk};
 ghost use Rattle.object.specs.View.{sectionIn, objectIn};
 ghost use Rattle.elf_layout.specs.Layout.{fileRefusal, checkedFile};
 ghost use Rattle.elf.specs.Opened.{layoutLength, indexLength, FileOpened, Passes};
-ghost use Rattle.elf.specs.Names.{symbolNamesOk};
+ghost use Rattle.elf.specs.Names.{symbolsOk};
 ghost use Rattle.elf.specs.Index.{sectionPart, symbolPart, relocationPart};
 ghost use Rattle.elf.specs.Told.{Indexes};
 ghost use Rattle.elf.specs.Btf.{namedBtf};
@@ -110,7 +110,7 @@ fn index_symbol_names(d: &[u8], l: Layout, t: &mut [u32]) -> bool
     requires { ⌜ Passes (now d) l × (length (now t) ≡ l .view .symbols) ⌝ }
     ensures { λ r.
         ⌜
-        (r ≡ symbolNamesOk (now (d .entry)) (fileOf (now (d .entry))))
+        (r ≡ symbolsOk (now (d .entry)) (fileOf (now (d .entry))))
         × (r ≡ true → now (t .exit) ≡ symbolPart (now (d .entry)))
         ⌝ }
 {

@@ -2,7 +2,7 @@
 use mathlib.Core.Path.{_≡_, refl, sym, ap, _∙_}
 use mathlib.Core.Bool.{true}
 use mathlib.Core.List.{List, [], _∷_}
-use Prim.Native.Nat.{ℕ, zero, suc, _+_, _-_, _*_, _/_, _<_, _≤_, min}
+use Prim.Native.Nat.{ℕ, zero, suc, _+_, _-_, _*_, _<_, _≤_, min}
 use native.Mathlib.Nat.{not-suc-le-zero, le-of-suc-le-suc, mul-zero, mul-suc, add-zero, sub-zero, zero-sub, suc-sub-suc}
 use native.Mathlib.Omega.{arith}
 use lib.Dec.{eqb·suc-zero}
@@ -13,10 +13,10 @@ use Rattle.lists.specs.Tests.{true-not-false}
 use Rattle.model.specs.declared.Endianness.{Endianness}
 use Rattle.model.specs.Bytes.{part, records}
 use Rattle.model.specs.LicenceVersion.{hasZero}
-use Rattle.model.specs.Elf.{numberedRecords, Header, headerOf, File, fileSections, entrySize, entryCount, stringsOf, upToZero, fileReloc, tableRelocs, fileSymbol, fileSymbols}
+use Rattle.model.specs.Elf.{numberedRecords, Header, File, entrySize, entryCount, stringsOf, upToZero, fileReloc, tableRelocs, fileSymbol, fileSymbols}
 
 module _ {A : Type 0} (g : ℕ → List ℕ → A) (w : ℕ) where
-  pub length-numbered : (i n : ℕ) (s : List ℕ) → length (numberedRecords g w i n s) ≡ n
+  length-numbered : (i n : ℕ) (s : List ℕ) → length (numberedRecords g w i n s) ≡ n
   unfolding numberedRecords
   length-numbered i zero s = refl
   length-numbered i (suc n) s = ap suc (length-numbered (suc i) n (drop w s))
@@ -39,7 +39,7 @@ module _ {A : Type 0} (g : ℕ → List ℕ → A) (w : ℕ) where
       (λ k l. getD-numbered i n (drop at f) k (g 0 []) l ∙ ap (λ (t : List ℕ). g (i + k) (take w t)) (drop-drop (w * k) at f))
 
 module _ {A : Type 0} (g : List ℕ → A) (w : ℕ) where
-  pub length-records : (n : ℕ) (s : List ℕ) → length (records g w n s) ≡ n
+  length-records : (n : ℕ) (s : List ℕ) → length (records g w n s) ≡ n
   unfolding records
   length-records zero s = refl
   length-records (suc n) s = ap suc (length-records n (drop w s))
@@ -57,14 +57,6 @@ module _ {A : Type 0} (g : List ℕ → A) (w : ℕ) where
       is-tab (records g w n (drop at f)) (λ i. g (part f (at + w * i) w)) n (g []) (length-records n (drop at f))
       (λ i l. getD-records n (drop at f) i (g []) l ∙ ap (λ (t : List ℕ). g (take w t)) (drop-drop (w * i) at f))
 
--- the section headers of a table that lies inside the file: all of them
-pub sections-tab : (f : List ℕ) (o : Endianness) (at n : ℕ) → at + 64 * n ≤ length f
-    → fileSections f o at n ≡ tab (λ k. headerOf o (1 + k) (part f (at + 64 + 64 * k) 64)) (n - 1)
-unfolding fileSections
-sections-tab f o at n h =
-    let m : min n ((length f + 16 - at) / 64) ≡ n = omega arith in
-    ap (λ (j : ℕ). numberedRecords (headerOf o) 64 1 (j - 1) (drop (at + 64) f)) m ∙ numbered-tab (headerOf o) 64 f (at + 64) 1 (n - 1)
-
 -- the symbols of a table
 pub symbols-tab : (f : List ℕ) (p : File) (t : Header)
     → fileSymbols f p t ≡ tab (λ k. fileSymbol (p .order) (stringsOf f p (t .link)) (1 + k) (part f (t .offset + 24 + 24 * k) 24)) (entryCount t - 1)
@@ -78,14 +70,14 @@ unfolding tableRelocs
 relocs-tab f o t = records-tab (fileReloc o) (entrySize t) f (t .offset) (entryCount t)
 
 -- a name and its zero lie inside its string table
-pub name-inside : (s : List ℕ) → hasZero s ≡ true → length (upToZero s) < length s
+name-inside : (s : List ℕ) → hasZero s ≡ true → length (upToZero s) < length s
 unfolding hasZero upToZero
 name-inside [] e = true-not-false (sym e)
 name-inside (zero ∷ s) e = omega arith
 name-inside (suc b ∷ s) e = let h : length (upToZero s) < length s = name-inside s (rw (eqb·suc-zero b) at e) in omega arith
 
 -- a name is the first bytes of its string table from its offset on
-pub name-is : (s : List ℕ) → upToZero s ≡ take (length (upToZero s)) s
+name-is : (s : List ℕ) → upToZero s ≡ take (length (upToZero s)) s
 unfolding upToZero
 name-is [] = refl
 name-is (zero ∷ s) = refl

@@ -1,8 +1,8 @@
 -- Tests that hold of a whole list, at one of its elements.
 use mathlib.Core.Path.{_≡_, refl, sym, ap, _∙_}
-use mathlib.Core.Bool.{Bool, true, false, cond}
+use mathlib.Core.Bool.{Bool, true, false, cond, _&&_, _||_, not}
 use mathlib.Core.List.{List, [], _∷_, _++_}
-use mathlib.Core.Option.{Option, none, some}
+use mathlib.Core.Option.{none, some}
 use Prim.Native.Nat.{ℕ, zero, suc, _<_}
 use native.Mathlib.Nat.{not-suc-le-zero, le-of-suc-le-suc}
 use native.Mathlib.Omega.{arith}
@@ -60,6 +60,20 @@ module _ {A : Type 0} (ok : A → Bool) where
       go : (b : Bool) → ok x ≡ true → all ok (keep p l) ≡ true → all ok (push b x (keep p l)) ≡ true
       go true h r = rw h r
       go false h r = r
+
+unless-kept : {A : Type 0} (ok p : A → Bool) (l : List A) → all ok (keep p l) ≡ true → all (λ x. not (p x) || ok x) l ≡ true
+unfolding all keep
+unless-kept ok p [] a = refl
+unless-kept ok p (x ∷ l) a = go (p x) a (unless-kept ok p l)
+  where
+    go : (b : Bool) → all ok (push b x (keep p l)) ≡ true → (all ok (keep p l) ≡ true → all (λ x. not (p x) || ok x) l ≡ true)
+        → ((not b || ok x) && all (λ x. not (p x) || ok x) l) ≡ true
+    go true a r = let (h, t) = both-true (ok x) (all ok (keep p l)) a in rw h (r t)
+    go false a r = r a
+
+-- number i of a list by number, which another test keeps
+pub kept-tab : {A : Type 0} (ok p : A → Bool) (g : ℕ → A) (n i : ℕ) → all ok (keep p (tab g n)) ≡ true → i < n → p (g i) ≡ true → ok (g i) ≡ true
+kept-tab ok p g n i a l e = rw e at (passed-tab (λ x. not (p x) || ok x) g n i (unless-kept ok p (tab g n) a) l)
 
 -- what is kept passed the test
 pub kept-passed : {A : Type 0} (p : A → Bool) (l : List A) → all p (keep p l) ≡ true

@@ -11,6 +11,13 @@ use Rattle.elf_layout.specs.Layout.{tableNumber, elfView}
 use Rattle.elf_records.specs.Elf.{indexAt}
 use Rattle.elf_object.specs.Inside.{sectionStrings, symbolStrings}
 
+-- where the names begin in their string tables: that of section number i and of symbol number j, counted from 0
+abbrev pub sectionNameOffset : List ℕ → ℕ → ℕ
+sectionNameOffset f i = field (fileOf f .order) f (headersIn f .first + 64 * i) 4
+
+abbrev pub symbolNameOffset : List ℕ → ℕ → ℕ
+symbolNameOffset f j = field (fileOf f .order) f (elfView f .at .symbols + 24 * j) 4
+
 -- where the relocations of section number i lie, counted from 0
 abbrev pub filePlaces : List ℕ → ℕ → List ℕ
 filePlaces f = placesFor f (headersIn f) (tableNumber (fileOf f))
@@ -18,7 +25,7 @@ filePlaces f = placesFor f (headersIn f) (tableNumber (fileOf f))
 pub record Indexed (f t : List ℕ) : Type 0 where
   pub section-lengths : (i : ℕ) → i < headersIn f .sections → indexAt t i ≡ length (stringAt (sectionStrings f) (headerIn f (headersIn f) i .name))
   pub symbol-lengths : (j : ℕ) → j < elfView f .symbols
-      → indexAt t (headersIn f .sections + j) ≡ length (stringAt (symbolStrings f) (field (fileOf f .order) f (elfView f .at .symbols + 24 * j) 4))
+      → indexAt t (headersIn f .sections + j) ≡ length (stringAt (symbolStrings f) (symbolNameOffset f j))
   pub firsts : (i : ℕ) → i < headersIn f .sections → indexAt t (headersIn f .sections + elfView f .symbols + i) ≡ length (rows (filePlaces f) i)
   pub counts : (i : ℕ) → i < headersIn f .sections → indexAt t (2 * headersIn f .sections + elfView f .symbols + i) ≡ length (filePlaces f i)
   pub places : (k : ℕ) → k < elfView f .relocations

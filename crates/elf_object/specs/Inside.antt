@@ -8,12 +8,11 @@ use native.Mathlib.Omega.{arith}
 use borrow.Author.Tests.{leb-true, eqb-true, eqb-false, ne-eqb}
 use lib.Dec.{eqb, leb}
 use lib.ListN.{length, drop}
-use Rattle.lists.specs.Tab.{tab}
 use Rattle.lists.specs.Tests.{true-not-false, both-true}
 use Rattle.model.specs.Bytes.{keep, firstIn, find, maybe, part, inside}
 use Rattle.model.specs.Deposit.{mostBytes, all}
 use Rattle.model.specs.Elf.{numberedRecords, Header, headerOf, isType, entryCount, wholeEntries, sectionNumbered, File, fileSections, fileOf, fileData, stringsOf}
-use Rattle.model.specs.ElfRefusals.{headerOk, linksStrings, sectionNamesOk, symbolTableOk, relocTableOk, entriesOf, limitsOk, rulesOk}
+use Rattle.model.specs.ElfRefusals.{headerOk, linksStrings, symbolTableOk, relocTableOk, entriesOf, limitsOk, rulesOk}
 use Rattle.elf_laws.specs.Rules.{Ruled, ruled}
 use Rattle.elf_header.specs.Headers.{headerIn, fileHeaderOf, headersOf, headersIn, presentSections, sections-by-number}
 use Rattle.elf_header.specs.Used.{usedBy, usedIn}
@@ -91,7 +90,7 @@ unfolding fileOf
 tables-in-use f = ap (keep (usedBy (tableNumber (fileOf f)))) (sections-by-number f)
 
 -- without entries there is no section
-pub no-sections : (f : List ℕ) → fileOf f .count ≡ 0 → fileOf f .sections ≡ []
+no-sections : (f : List ℕ) → fileOf f .count ≡ 0 → fileOf f .sections ≡ []
 unfolding fileOf fileSections numberedRecords
 no-sections f e =
     let p = fileOf f in

@@ -2,7 +2,7 @@
 use mathlib.Core.Path.{_≡_, refl, sym, ap, _∙_}
 use mathlib.Core.Bool.{true}
 use mathlib.Core.List.{List, map}
-use Prim.Native.Nat.{ℕ, _+_, _*_, _%_, _<_, _≤_}
+use Prim.Native.Nat.{ℕ, _+_, _<_, _≤_}
 use native.Mathlib.Nat.{zero-add, add-zero, mul-zero}
 use native.Mathlib.Omega.{arith}
 use lib.ListN.{length}
@@ -12,21 +12,20 @@ use Rattle.model.specs.declared.SectionRecord.{SectionRecord}
 use Rattle.model.specs.declared.SymbolRecord.{SymbolRecord}
 use Rattle.model.specs.Deposit.{extent}
 use Rattle.model.specs.Elf.{File, fileOf, stringAt, fileSection, statedIn, elfObjectOf}
-use Rattle.model.specs.ElfRefusals.{headerOk, rulesOk}
-use Rattle.object_view.specs.declared.View.{View}
+use Rattle.model.specs.ElfRefusals.{rulesOk}
 use Rattle.records.specs.View.{sectionAt, symbolAt, section-elf, symbol-elf}
 use Rattle.records.specs.Readable.{NameFits, DataFits, Readable}
 use Rattle.object.specs.View.{sectionFrom, symbolFrom, objectIn}
 use Rattle.elf_laws.specs.Rules.{Ruled, ruled}
-use Rattle.elf_header.specs.Headers.{headerIn, headersIn, sections-by-number}
+use Rattle.elf_header.specs.Headers.{headersIn, sections-by-number}
 use Rattle.elf_layout.specs.Layout.{elfView}
-use Rattle.elf_records.specs.Elf.{indexAt, dataRange, sectionIndexAt, elfSection, elfSymbol}
+use Rattle.elf_records.specs.Elf.{dataRange, sectionIndexAt, elfSection, elfSymbol}
 use Rattle.elf_object.specs.Inside.{TablesRuled, rules-tables, view-sections, sectionStrings, symbolStrings, sections-few, symbols-few, relocations-few, header-passes}
-use Rattle.elf_object.specs.Ranges.{NameRead, DataRead, size-small}
-use Rattle.elf_object.specs.Indexed.{Indexed}
+use Rattle.elf_object.specs.Ranges.{NameRead, DataRead, header-size-small}
+use Rattle.elf_object.specs.Indexed.{symbolNameOffset, Indexed}
 use Rattle.elf_object.specs.Relocated.{relocs-end}
 use Rattle.elf_object.specs.Sections.{headerOfFile, HeaderRead, header-read, section-name-read, section-data-read, section-name-at, section-bytes-at, section-is}
-use Rattle.elf_object.specs.Symbols.{symbolNameOffset, symbols-by-number, symbol-name-read, symbol-name-at, symbol-is}
+use Rattle.elf_object.specs.Symbols.{symbols-by-number, symbol-name-read, symbol-name-at, symbol-is}
 
 module _ (f t : List ℕ) (ok : rulesOk f (fileOf f) ≡ true) (x : Indexed f t) where
   r : TablesRuled f (fileOf f)
@@ -71,7 +70,7 @@ module _ (f t : List ℕ) (ok : rulesOk f (fileOf f) ≡ true) (x : Indexed f t)
   unfolding elfView elfSection
   section-small i l =
       let h : HeaderRead f i = header-read f r i l in
-      rw (section-elf f t (elfView f) refl i, h .size) (size-small (length f) (headerOfFile f i) (header-passes f r i l))
+      rw (section-elf f t (elfView f) refl i, h .size) (header-size-small (length f) (headerOfFile f i) (header-passes f r i l))
 
   relocations-end : (i : ℕ) → i < elfView f .sections
       → sectionAt f t (elfView f) i .relocations .at + sectionAt f t (elfView f) i .relocations .length ≤ elfView f .relocations

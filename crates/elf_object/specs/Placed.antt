@@ -1,27 +1,29 @@
 -- The places of relocations: those of one section among those of all, as many as the tables in use have entries, and each inside the file.
-use mathlib.Core.Path.{_≡_, refl, sym, ap, ap₂, _∙_}
-use mathlib.Core.Bool.{Bool, true, false, cond, _&&_, _||_, not}
+use mathlib.Core.Path.{_≡_, refl, sym, ap, _∙_}
+use mathlib.Core.Bool.{Bool, true, false, cond, _||_, not}
 use mathlib.Core.List.{List, [], _∷_, _++_}
-use mathlib.Core.Logic.{⊎-elim}
+use mathlib.Core.Logic.{_⊎_, inl, inr, ⊎-elim}
 use mathlib.Core.Option.{Option, none, some}
 use Prim.Native.Nat.{ℕ, zero, suc, _+_, _-_, _*_, _/_, _<_, _≤_}
 use native.Mathlib.Nat.{not-suc-le-zero, le-of-suc-le-suc, eq-or-lt-of-le}
 use native.Mathlib.Omega.{arith}
-use borrow.Author.Tests.{leb-true, leb-false, le-leb, eqb-true, eqb-false, ltb-true, ltb-false, lt-ltb, le-ltb, not-true}
+use borrow.Author.Tests.{leb-true, le-leb, eqb-true, eqb-false, ltb-true, ltb-false}
 use lib.Dec.{eqb, leb, ltb}
 use lib.ListN.{length, getD, length-append, List·getD-append}
 use lib.Seq.{getD-append-add}
 use Rattle.lists.specs.Tab.{tab, length-tab, getD-tab, rows, rows-suc, rows-le}
 use Rattle.lists.specs.Tests.{true-not-false, both-true}
-use Rattle.model.specs.Bytes.{push, keep, each, find, maybe}
+use Rattle.model.specs.Bytes.{keep, each, maybe}
 use Rattle.model.specs.Deposit.{all}
-use Rattle.model.specs.Elf.{Header, headerOf, isType, isRelocations, entrySize, entryCount, sectionNumbered}
+use Rattle.model.specs.Elf.{Header, headerOf, isType, isRelocations, entrySize, entryCount, sectionNumbered, fileOf}
 use Rattle.model.specs.ElfRefusals.{headerOk, relocTableOk, entriesOf}
 use Rattle.elf_header.specs.declared.Headers.{Headers}
-use Rattle.elf_header.specs.Headers.{headerIn}
+use Rattle.elf_header.specs.Headers.{headerIn, headersIn, sections-by-number}
 use Rattle.elf_header.specs.Used.{usedBy, usedIn, tablePlaces, placesFor}
-use Rattle.elf_object.specs.Found.{tab-passed, passed-weaker, passed-found, passed-kept, kept-passed}
-use Rattle.elf_object.specs.Inside.{bytes-inside}
+use Rattle.elf_layout.specs.Layout.{tableNumber}
+use Rattle.elf_relocations.specs.Placing.{Near, Tables, placed-all}
+use Rattle.elf_object.specs.Found.{tab-passed, passed-weaker, passed-found, passed-kept, kept-tab, kept-passed}
+use Rattle.elf_object.specs.Inside.{TablesRuled, tables-in-use, bytes-inside, headers-inside, header-passes}
 
 -- ---- rows
 
@@ -46,113 +48,32 @@ module _ {A : Type 0} (g : ℕ → List A) where
 
 -- ---- how many
 
-entries-placed : (ts : List Header) → length (each tablePlaces ts) ≡ entriesOf ts
-unfolding each entriesOf tablePlaces
-entries-placed [] = refl
-entries-placed (t ∷ ts) = length-append (tablePlaces t) (each tablePlaces ts) ∙ ap₂ _+_ (length-tab _ (entryCount t)) (entries-placed ts)
-
-no-entries : entriesOf [] ≡ 0
-unfolding entriesOf
-no-entries = refl
-
--- those of section i + 1, and those of the sections behind it
-split-entries : (i : ℕ) (ts : List Header)
-    → entriesOf (keep (λ t. eqb (t .info) (suc i)) ts) + entriesOf (keep (λ t. ltb (suc i) (t .info)) ts) ≡ entriesOf (keep (λ t. ltb i (t .info)) ts)
-unfolding keep entriesOf
-split-entries i [] = refl
-split-entries i (t ∷ ts) = go (eqb (t .info) (suc i)) (ltb (suc i) (t .info)) (ltb i (t .info)) refl refl refl (split-entries i ts)
-  where
-    here : List Header
-    here = keep (λ t. eqb (t .info) (suc i)) ts
-
-    later : List Header
-    later = keep (λ t. ltb (suc i) (t .info)) ts
-
-    past : List Header
-    past = keep (λ t. ltb i (t .info)) ts
-
-    go : (a b c : Bool) → eqb (t .info) (suc i) ≡ a → ltb (suc i) (t .info) ≡ b → ltb i (t .info) ≡ c
-        → entriesOf here + entriesOf later ≡ entriesOf past → entriesOf (push a t here) + entriesOf (push b t later) ≡ entriesOf (push c t past)
-    go true true c p q r h = let x : t .info ≡ suc i = eqb-true _ _ p in let y : suc i < t .info = ltb-true _ _ q in let no : ⊥ = omega arith in absurd no
-    go true false true p q r h = omega arith
-    go true false false p q r h = let x : t .info ≡ suc i = eqb-true _ _ p in let y : t .info ≤ i = ltb-false _ _ r in let no : ⊥ = omega arith in absurd no
-    go false true true p q r h = omega arith
-    go false true false p q r h = let x : suc i < t .info = ltb-true _ _ q in let y : t .info ≤ i = ltb-false _ _ r in let no : ⊥ = omega arith in absurd no
-    go false false true p q r h =
-        let x : t .info ≡ suc i → ⊥ = eqb-false _ _ p in
-        let y : t .info ≤ suc i = ltb-false _ _ q in
-        let z : i < t .info = ltb-true _ _ r in
-        let no : ⊥ = omega arith in
-        absurd no
-    go false false false p q r h = h
-
--- the first m sections have all but those of the sections behind them
-first-entries : (m : ℕ) (ts : List Header)
-    → length (rows (λ i. each tablePlaces (keep (λ t. eqb (t .info) (suc i)) ts)) m) + entriesOf (keep (λ t. ltb m (t .info)) ts)
-    ≡ entriesOf (keep (λ t. ltb 0 (t .info)) ts)
-unfolding rows
-first-entries zero ts = omega arith
-first-entries (suc m) ts =
-    let g : ℕ → List ℕ = λ i. each tablePlaces (keep (λ t. eqb (t .info) (suc i)) ts) in
-    let e : length (rows g m ++ g m) ≡ length (rows g m) + length (g m) = length-append (rows g m) (g m) in
-    omega (arith, e, entries-placed (keep (λ t. eqb (t .info) (suc m)) ts), split-entries m ts, first-entries m ts)
-
-kept-whole : (p : Header → Bool) (ts : List Header) → all p ts ≡ true → keep p ts ≡ ts
-unfolding keep all
-kept-whole p [] a = refl
-kept-whole p (t ∷ ts) a = let (h, r) = both-true (p t) (all p ts) a in rw (h, kept-whole p ts r)
-
-kept-none : (p q : Header → Bool) → ((t : Header) → q t ≡ true → p t ≡ false) → (ts : List Header) → all q ts ≡ true → keep p ts ≡ []
-unfolding keep all
-kept-none p q w [] a = refl
-kept-none p q w (t ∷ ts) a = let (h, r) = both-true (q t) (all q ts) a in rw (w t h, kept-none p q w ts r)
-
-module _ (f : List ℕ) (h : Headers) (n : ℕ) where
-  -- a table in use is a REL or RELA table of a section from 1 on
-  used-relocations : all isRelocations (usedIn f h n) ≡ true
-  used-relocations = passed-weaker (usedBy n) isRelocations (λ t e. both-true (isRelocations t) _ e .0) (usedIn f h n) (kept-passed (usedBy n) (tab (headerIn f h) (h .sections)))
-
-  used-info : all (λ t. ltb 0 (t .info)) (usedIn f h n) ≡ true
-  used-info = passed-weaker (usedBy n) (λ t. ltb 0 (t .info)) some-info (usedIn f h n) (kept-passed (usedBy n) (tab (headerIn f h) (h .sections)))
+module _ (f : List ℕ) (h : Headers) (n : ℕ) (ok : all (relocTableOk (tab (headerIn f h) (h .sections))) (usedIn f h n) ≡ true) where
+  -- a table in use belongs to a section that there is
+  info-few : (i : ℕ) → i < h .sections → usedBy n (headerIn f h i) ≡ true → headerIn f h i .info ≤ h .sections
+  unfolding headerOf relocTableOk
+  info-few i l u = named (headerIn f h i) (kept-tab (relocTableOk hs) (usedBy n) (headerIn f h) (h .sections) i ok l u)
     where
-      some-info : (t : Header) → usedBy n t ≡ true → ltb 0 (t .info) ≡ true
-      some-info t e =
-          let a : not (eqb (t .info) 0) ≡ true = both-true (eqb (t .link) n) _ (both-true (isRelocations t) _ e .1) .1 in
-          let z : t .info ≡ 0 → ⊥ = eqb-false _ _ (not-true _ a) in
-          lt-ltb 0 (t .info) (omega arith)
+      hs : List Header
+      hs = tab (headerIn f h) (h .sections)
 
-  module _ (ok : all (relocTableOk (tab (headerIn f h) (h .sections))) (usedIn f h n) ≡ true) where
-    pub info-few : all (λ t. leb (t .info) (h .sections)) (usedIn f h n) ≡ true
-    unfolding headerOf relocTableOk
-    info-few = passed-weaker (relocTableOk hs) (λ t. leb (t .info) (h .sections)) named (usedIn f h n) ok
-      where
-        hs : List Header
-        hs = tab (headerIn f h) (h .sections)
+      numbers : all (λ x. leb (x .index) (h .sections)) hs ≡ true
+      numbers = tab-passed (λ x. leb (x .index) (h .sections)) (headerIn f h) (h .sections) (λ i l. le-leb (1 + i) (h .sections) (omega arith))
 
-        numbers : all (λ x. leb (x .index) (h .sections)) hs ≡ true
-        numbers = tab-passed (λ x. leb (x .index) (h .sections)) (headerIn f h) (h .sections) (λ i l. le-leb (1 + i) (h .sections) (omega arith))
+      named : (t : Header) → relocTableOk hs t ≡ true → t .info ≤ h .sections
+      named t e = go (sectionNumbered hs (t .info)) refl (both-true (maybe (sectionNumbered hs (t .info)) false (λ x. not (isRelocations x))) _ e .0)
+        where
+          go : (x : Option Header) → sectionNumbered hs (t .info) ≡ x → maybe x false (λ x. not (isRelocations x)) ≡ true → t .info ≤ h .sections
+          go none q r = true-not-false (sym r)
+          go (some x) q r =
+              let (a, b) = passed-found (λ x. leb (x .index) (h .sections)) (λ x. eqb (x .index) (t .info)) hs x q numbers in
+              let i : x .index ≡ t .info = eqb-true _ _ a in
+              let m : x .index ≤ h .sections = leb-true _ _ b in
+              omega arith
 
-        named : (t : Header) → relocTableOk hs t ≡ true → leb (t .info) (h .sections) ≡ true
-        named t e = go (sectionNumbered hs (t .info)) refl (both-true (maybe (sectionNumbered hs (t .info)) false (λ x. not (isRelocations x))) _ e .0)
-          where
-            go : (x : Option Header) → sectionNumbered hs (t .info) ≡ x → maybe x false (λ x. not (isRelocations x)) ≡ true → leb (t .info) (h .sections) ≡ true
-            go none q r = true-not-false (sym r)
-            go (some x) q r =
-                let (a, b) = passed-found (λ x. leb (x .index) (h .sections)) (λ x. eqb (x .index) (t .info)) hs x q numbers in
-                let i : x .index ≡ t .info = eqb-true _ _ a in
-                rw i at b
-
-    -- each entry of a table in use has a place
-    pub length-places : entriesOf (usedIn f h n) ≡ length (rows (placesFor f h n) (h .sections))
-    unfolding placesFor
-    length-places =
-        let us : List Header = usedIn f h n in
-        let behind : keep (λ t. ltb (h .sections) (t .info)) us ≡ [] =
-        kept-none (λ t. ltb (h .sections) (t .info)) (λ t. leb (t .info) (h .sections)) (λ t e. le-ltb (h .sections) (t .info) (leb-true _ _ e)) us info-few
-        in
-        let none-behind : entriesOf (keep (λ t. ltb (h .sections) (t .info)) us) ≡ 0 = ap entriesOf behind ∙ no-entries in
-        let whole : entriesOf (keep (λ t. ltb 0 (t .info)) us) ≡ entriesOf us = ap entriesOf (kept-whole (λ t. ltb 0 (t .info)) us used-info) in
-        omega (arith, first-entries (h .sections) us)
+  -- each entry of a table in use has a place
+  pub length-places : entriesOf (usedIn f h n) ≡ length (rows (placesFor f h n) (h .sections))
+  length-places = sym (placed-all f h n info-few)
 
 -- ---- where
 
@@ -203,6 +124,11 @@ places-inside n (t ∷ ts) a b k l =
         let q : length (here ++ rest) ≡ length here + length rest = length-append here rest in
         rw p (more j (omega arith))
 
+-- a table in use is a REL or RELA table
+used-relocations : (f : List ℕ) (h : Headers) (n : ℕ) → all isRelocations (usedIn f h n) ≡ true
+used-relocations f h n =
+    passed-weaker (usedBy n) isRelocations (λ t e. both-true (isRelocations t) _ e .0) (usedIn f h n) (kept-passed (usedBy n) (tab (headerIn f h) (h .sections)))
+
 -- a relocation lies in the file, its first 16 bytes being all that is read of it
 pub placed-inside : (f : List ℕ) (h : Headers) (n i k : ℕ) → all (headerOk (length f)) (tab (headerIn f h) (h .sections)) ≡ true
     → k < length (placesFor f h n i) → getD (placesFor f h n i) k 0 + 16 ≤ length f
@@ -212,3 +138,48 @@ placed-inside f h n i k a l =
     let ok : all (headerOk (length f)) (usedIn f h n) ≡ true = passed-kept (headerOk (length f)) (usedBy n) (tab (headerIn f h) (h .sections)) a in
     places-inside (length f) (keep own (usedIn f h n)) (passed-kept (headerOk (length f)) own (usedIn f h n) ok)
     (passed-kept isRelocations own (usedIn f h n) (used-relocations f h n)) k l
+
+-- ---- what elf_relocations asks
+
+-- the entries of a table in use lie where a file can have them
+table-near : (n : ℕ) (t : Header) → n ≤ 16777216 → headerOk n t ≡ true → isRelocations t ≡ true → Near t
+table-near n t small ok rel = go (isType 9 t) (isType 4 t) (eqb (t .size) 0) refl refl refl rel
+  where
+    go : (a b c : Bool) → isType 9 t ≡ a → isType 4 t ≡ b → eqb (t .size) 0 ≡ c → (a || b) ≡ true → (t .size / cond a 16 24 ≡ 0) ⊎ (t .offset + t .size ≤ 16777216)
+    go true b true p q z r = let e : t .size ≡ 0 = eqb-true _ _ z in inl (omega arith)
+    go true b false p q z r =
+        let k : t .kind ≡ 9 = eqb-true _ _ p in
+        let e : t .size ≡ 0 → ⊥ = eqb-false _ _ z in
+        let l : t .offset + t .size ≤ n = bytes-inside n t ok (λ x. let no : ⊥ = omega arith in no) (omega arith) in
+        inr (omega arith)
+    go false true true p q z r = let e : t .size ≡ 0 = eqb-true _ _ z in inl (omega arith)
+    go false true false p q z r =
+        let k : t .kind ≡ 4 = eqb-true _ _ q in
+        let e : t .size ≡ 0 → ⊥ = eqb-false _ _ z in
+        let l : t .offset + t .size ≤ n = bytes-inside n t ok (λ x. let no : ⊥ = omega arith in no) (omega arith) in
+        inr (omega arith)
+    go false false c p q z r = true-not-false (sym r)
+
+module _ (f : List ℕ) (r : TablesRuled f (fileOf f)) where
+  used-tables-pass : all (relocTableOk (tab (headerIn f (headersIn f)) (headersIn f .sections))) (usedIn f (headersIn f) (tableNumber (fileOf f))) ≡ true
+  used-tables-pass =
+      ap (λ (ts : List Header). all (relocTableOk (tab (headerIn f (headersIn f)) (headersIn f .sections))) ts) (sym (tables-in-use f))
+      ∙ ap (λ (hs : List Header). all (relocTableOk hs) (fileOf f .relocations)) (sym (sections-by-number f))
+      ∙ r .relocations
+
+  -- there are as many relocations as places
+  pub relocations-placed : entriesOf (fileOf f .relocations) ≡ length (rows (placesFor f (headersIn f) (tableNumber (fileOf f))) (headersIn f .sections))
+  relocations-placed = ap entriesOf (tables-in-use f) ∙ length-places f (headersIn f) (tableNumber (fileOf f)) used-tables-pass
+
+  -- the relocations can be placed
+  pub tables-placeable : Tables f (headersIn f) (tableNumber (fileOf f))
+  tables-placeable =
+      record {
+        present = omega (arith, headers-inside f r);
+        few = rw (← tables-in-use f) (r .few-relocations);
+        settled = λ i l u.
+            record {
+              inside = info-few f (headersIn f) (tableNumber (fileOf f)) used-tables-pass i l u;
+              near = table-near (length f) (headerIn f (headersIn f) i) (r .short) (header-passes f r i l) (both-true (isRelocations (headerIn f (headersIn f) i)) _ u .0);
+            };
+      }

@@ -14,7 +14,7 @@ use Rattle.model.specs.declared.Extent.{Extent}
 use Rattle.model.specs.Bytes.{part, u8, inside}
 use Rattle.model.specs.LicenceVersion.{number, hasZero}
 use Rattle.model.specs.Deposit.{mostBytes, extent, all}
-use Rattle.model.specs.Elf.{field, Header, isType, fileData, upToZero, stringAt}
+use Rattle.model.specs.Elf.{field, Header, isType, fileData, stringAt}
 use Rattle.model.specs.ElfRefusals.{headerOk, stringOk}
 use Rattle.stream.specs.Stream.{bytesAt}
 use Rattle.stream.specs.Laws.{bytes-plain}
@@ -25,22 +25,24 @@ use Rattle.elf_object.specs.Inside.{StringsIn}
 -- ---- fields
 
 module _ (f : List ℕ) (p n : ℕ) where
-  -- a field of a record of n bytes
-  pub field-part : (o : Endianness) (k w : ℕ) → k + w ≤ n → field o f (p + k) w ≡ field o (part f p n) k w
+  field-part : (o : Endianness) (k w : ℕ) → k + w ≤ n → field o f (p + k) w ≡ field o (part f p n) k w
   field-part o k w h = ap (number o) (sym (part-part f p n k w h))
 
+  -- the first field of a record of n bytes
+  pub field-start : (o : Endianness) (w : ℕ) → w ≤ n → field o f p w ≡ field o (part f p n) 0 w
+  field-start o w h = let z : p + 0 ≡ p = omega arith in ap (λ (q : ℕ). field o f q w) (sym z) ∙ field-part o 0 w (omega arith)
+
   module _ (fits : p + n ≤ length f) where
+    -- a field of a record in the file
     pub field-in : (o : Endianness) (k w : ℕ) → k + w ≤ n → fieldAt o f (p + k) w ≡ field o (part f p n) k w
     unfolding fieldAt
     field-in o k w h =
         let l : leb (p + k + w) (length f) ≡ true = le-leb (p + k + w) (length f) (omega arith) in
         rw l (field-part o k w h)
 
-    -- the first of them
     pub field-first : (o : Endianness) (w : ℕ) → w ≤ n → fieldAt o f p w ≡ field o (part f p n) 0 w
     field-first o w h = let z : p + 0 ≡ p = omega arith in ap (λ (q : ℕ). fieldAt o f q w) (sym z) ∙ field-in o 0 w (omega arith)
 
-    -- a byte of them
     pub byte-in : (k : ℕ) → k < n → getD f (p + k) 0 ≡ u8 (part f p n) k
     byte-in k h = sym (getD-take n (drop p f) k 0 h ∙ getD-drop p f k 0)
 
@@ -78,9 +80,9 @@ pub record DataRead (f s : List ℕ) (e : Extent) : Type 0 where
   pub ends : e .at + e .length ≤ length f
   pub bytes : bytesAt f 0 (e .at) (e .length) ≡ s
 
-pub size-small : (n : ℕ) (h : Header) → headerOk n h ≡ true → h .size ≤ 16777216
+pub header-size-small : (n : ℕ) (h : Header) → headerOk n h ≡ true → h .size ≤ 16777216
 unfolding headerOk
-size-small n h e = leb-true _ _ (both-true (leb (h .size) mostBytes) (isType 8 h || (eqb (h .size) 0 || inside (h .offset) (h .size) n)) e .0)
+header-size-small n h e = leb-true _ _ (both-true (leb (h .size) mostBytes) (isType 8 h || (eqb (h .size) 0 || inside (h .offset) (h .size) n)) e .0)
 
 pub data-read : (f : List ℕ) (h : Header) → length f ≤ 16777216 → headerOk (length f) h ≡ true → DataRead f (fileData f h) (dataRange (h .kind) (h .offset) (h .size))
 unfolding headerOk dataRange fileData bytesAt

@@ -16,16 +16,16 @@ use Rattle.model.specs.LicenceVersion.{number}
 use Rattle.model.specs.Deposit.{all, unlessNone, relocOf}
 use Rattle.model.specs.Object.{Reloc}
 use Rattle.model.specs.Elf.{field, Header, headerOf, isType, entrySize, entryCount, File, fileOf, fileTarget, relocSize, fileReloc, tableRelocs, fileRelocs}
-use Rattle.model.specs.ElfRefusals.{headerOk, relocTableOk, entriesOf}
+use Rattle.model.specs.ElfRefusals.{headerOk}
 use Rattle.records.specs.View.{relocation-elf}
 use Rattle.object.specs.View.{relocIn}
 use Rattle.elf_laws.specs.Places.{part-part, relocs-tab}
 use Rattle.elf_header.specs.Headers.{headerIn, headersIn, sections-by-number}
-use Rattle.elf_header.specs.Used.{usedIn, tablePlaces, placesFor}
+use Rattle.elf_header.specs.Used.{tablePlaces, placesFor}
 use Rattle.elf_layout.specs.Layout.{tableNumber, elfView}
 use Rattle.elf_records.specs.Elf.{fieldAt, indexAt, symbolOrNone, widthOf, placeOf, relocationOffsetAt, relocationSymbolAt, elfRelocation}
 use Rattle.elf_object.specs.Inside.{TablesRuled, tables-in-use}
-use Rattle.elf_object.specs.Placed.{row-ends, getD-rows, length-places, placed-inside}
+use Rattle.elf_object.specs.Placed.{row-ends, getD-rows, placed-inside, relocations-placed}
 use Rattle.elf_object.specs.Ranges.{field-in, field-first}
 use Rattle.elf_object.specs.Indexed.{filePlaces, Indexed}
 
@@ -79,18 +79,9 @@ relocs-placed f p h l e =
 
 -- ---- by their records
 
--- there are as many relocations as places
-pub relocations-placed : (f : List ℕ) → TablesRuled f (fileOf f) → elfView f .relocations ≡ length (rows (filePlaces f) (headersIn f .sections))
+pub view-relocations : (f : List ℕ) → TablesRuled f (fileOf f) → elfView f .relocations ≡ length (rows (filePlaces f) (headersIn f .sections))
 unfolding elfView
-relocations-placed f r =
-    let hs : List Header = tab (headerIn f (headersIn f)) (headersIn f .sections) in
-    let us : List Header = usedIn f (headersIn f) (tableNumber (fileOf f)) in
-    let ok : all (relocTableOk hs) us ≡ true =
-    ap (λ (ts : List Header). all (relocTableOk hs) ts) (sym (tables-in-use f))
-    ∙ ap (λ (ss : List Header). all (relocTableOk ss) (fileOf f .relocations)) (sym (sections-by-number f))
-    ∙ r .relocations
-    in
-    ap entriesOf (tables-in-use f) ∙ length-places f (headersIn f) (tableNumber (fileOf f)) ok
+view-relocations f r = relocations-placed f r
 
 target-is : (y : ℕ) (b : Bool) → _≡_ {A = Option SymbolIndex} (unlessNone (cond b 4294967295 y) (record { 0 = cond b 4294967295 y })) (cond b none (unlessNone y (record { 0 = y })))
 target-is y true = refl
@@ -122,7 +113,7 @@ module _ (f t : List ℕ) where
     unfolding elfView
     reloc-of-section k h =
         let m : ℕ = length (rows (filePlaces f) i) + k in
-        let below : m < elfView f .relocations = rw (relocations-placed f r) (omega (arith, row-ends (filePlaces f) i (headersIn f .sections) l)) in
+        let below : m < elfView f .relocations = rw (view-relocations f r) (omega (arith, row-ends (filePlaces f) i (headersIn f .sections) l)) in
         let ok : all (headerOk (length f)) (tab (headerIn f (headersIn f)) (headersIn f .sections)) ≡ true =
         ap (all (headerOk (length f))) (sym (sections-by-number f)) ∙ r .sections
         in
@@ -138,7 +129,7 @@ module _ (f t : List ℕ) where
 
     -- its relocations end before all do
     pub relocs-end : indexAt t (headersIn f .sections + elfView f .symbols + i) + indexAt t (2 * headersIn f .sections + elfView f .symbols + i) ≤ elfView f .relocations
-    relocs-end = rw (x .firsts i l, x .counts i l, relocations-placed f r) (row-ends (filePlaces f) i (headersIn f .sections) l)
+    relocs-end = rw (x .firsts i l, x .counts i l, view-relocations f r) (row-ends (filePlaces f) i (headersIn f .sections) l)
 
     pub section-relocs : tab (λ k. relocIn f t (elfView f) (indexAt t (headersIn f .sections + elfView f .symbols + i) + k)) (indexAt t (2 * headersIn f .sections + elfView f .symbols + i))
         ≡ fileRelocs f (fileOf f) (headerIn f (headersIn f) i)

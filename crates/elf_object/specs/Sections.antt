@@ -1,27 +1,26 @@
 -- The section records of a file's view: what they hold, and the sections that they stand for.
-use mathlib.Core.Path.{_≡_, refl, sym, ap, _∙_}
+use mathlib.Core.Path.{_≡_, refl, ap, _∙_}
 use mathlib.Core.Bool.{Bool, true, false, cond, _&&_}
 use mathlib.Core.List.{List}
 use Prim.Native.Nat.{ℕ, _+_, _*_, _/_, _%_, _<_, _≤_}
 use native.Mathlib.Nat.{zero-add}
 use native.Mathlib.Omega.{arith}
 use lib.Dec.{eqb}
-use lib.ListN.{length, drop}
+use lib.ListN.{length}
 use Rattle.model.specs.Bytes.{part}
-use Rattle.model.specs.Deposit.{extent, all}
-use Rattle.model.specs.Object.{Section}
+use Rattle.model.specs.Deposit.{extent}
 use Rattle.model.specs.Elf.{field, Header, headerOf, fileOf, fileData, stringAt, textMark, fileSection}
-use Rattle.model.specs.ElfRefusals.{stringOk, sectionNamesOk}
+use Rattle.model.specs.ElfRefusals.{sectionNamesOk}
 use Rattle.records.specs.View.{nameIn, dataIn, sectionAt, section-elf}
 use Rattle.object.specs.View.{sectionFrom}
-use Rattle.elf_header.specs.Headers.{headerIn, fileHeaderOf, headersOf, headersIn, sections-by-number}
+use Rattle.elf_header.specs.Headers.{headerIn, fileHeaderOf, headersOf, headersIn}
 use Rattle.elf_layout.specs.Layout.{elfView, layoutOf}
-use Rattle.elf_records.specs.Elf.{fieldAt, indexAt, markOf, dataRange, sectionIndexAt, num, headerAt, sectionNameAt, elfSection}
-use Rattle.elf_object.specs.Found.{passed-tab}
+use Rattle.elf_records.specs.Elf.{fieldAt, markOf, dataRange, sectionIndexAt, num, headerAt, sectionNameAt, elfSection}
 use Rattle.elf_object.specs.Inside.{TablesRuled, sectionStrings, section-strings, sections-few, headers-inside, header-passes}
 use Rattle.elf_object.specs.Relocated.{section-relocs}
 use Rattle.elf_object.specs.Ranges.{field-in, field-first, NameRead, name-read, DataRead, data-read}
-use Rattle.elf_object.specs.Indexed.{Indexed}
+use Rattle.elf_object.specs.Indexed.{sectionNameOffset, Indexed}
+use Rattle.elf_object.specs.Named.{section-offset, section-name-passes}
 
 -- ---- the fields of a header, by its record
 
@@ -56,13 +55,10 @@ module _ (f : List ℕ) (r : TablesRuled f (fileOf f)) (i : ℕ) (l : i < header
 
   -- its name, and its data
   pub section-name-read : sectionNamesOk f (fileOf f) ≡ true → NameRead f (sectionStrings f) (elfView f .strings .sections) (headerOfFile f i .name)
-  unfolding sectionNamesOk
   section-name-read ok =
-      let name : stringOk (drop (headerOfFile f i .name) (sectionStrings f)) ≡ true =
-      passed-tab (λ h. stringOk (drop (h .name) (sectionStrings f))) (headerOfFile f) (headersIn f .sections) i
-      (ap (all (λ h. stringOk (drop (h .name) (sectionStrings f)))) (sym (sections-by-number f)) ∙ ok) l
-      in
-      name-read f (sectionStrings f) (elfView f .strings .sections) (layoutOf f .ends .sections) (headerOfFile f i .name) (r .short) (section-strings f r) name
+      rw section-offset
+      (name-read f (sectionStrings f) (elfView f .strings .sections) (layoutOf f .ends .sections) (sectionNameOffset f i) (r .short) (section-strings f r)
+      (section-name-passes f ok i l))
 
   pub section-data-read : DataRead f (fileData f (headerOfFile f i)) (dataRange (headerOfFile f i .kind) (headerOfFile f i .offset) (headerOfFile f i .size))
   section-data-read = data-read f (headerOfFile f i) (r .short) (header-passes f r i l)

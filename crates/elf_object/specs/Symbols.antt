@@ -3,51 +3,44 @@ use mathlib.Core.Path.{_≡_, refl, sym, ap, _∙_}
 use mathlib.Core.Bool.{Bool, true, false, cond, _&&_, _||_}
 use mathlib.Core.List.{List, []}
 use mathlib.Core.Option.{Option, none, some}
-use Prim.Native.Nat.{ℕ, _+_, _-_, _*_, _%_, _<_, _≤_}
+use Prim.Native.Nat.{ℕ, _+_, _*_, _%_, _<_, _≤_}
 use native.Mathlib.Nat.{zero-add}
 use native.Mathlib.Omega.{arith}
 use borrow.Author.Tests.{leb-false, ne-eqb}
 use lib.Dec.{eqb, leb}
-use lib.ListN.{length, getD, drop}
+use lib.ListN.{length, getD}
 use Rattle.lists.specs.Tab.{tab, tab-none, tab-ext}
-use Rattle.lists.specs.Tests.{both-true, both-false}
+use Rattle.lists.specs.Tests.{both-false}
 use Rattle.model.specs.declared.Endianness.{Endianness}
 use Rattle.model.specs.declared.SectionIndex.{SectionIndex}
 use Rattle.model.specs.declared.SymbolKind.{SymbolKind}
-use Rattle.model.specs.Bytes.{isSome, maybe, part, u8, records}
-use Rattle.model.specs.Deposit.{extent, all, unlessNone, symbolKind}
-use Rattle.model.specs.Object.{Symbol}
-use Rattle.model.specs.Elf.{field, Header, entryCount, wholeEntries, File, fileOf, stringsOf, stringAt, kindByType, symbolSection, isDefinition, fileSymbol, fileSymbols}
-use Rattle.model.specs.ElfRefusals.{linksStrings, stringOk, symbolTableOk}
+use Rattle.model.specs.Bytes.{isSome, maybe, part, u8}
+use Rattle.model.specs.Deposit.{extent, unlessNone, symbolKind}
+use Rattle.model.specs.Elf.{field, Header, File, fileOf, stringsOf, stringAt, kindByType, symbolSection, isDefinition, fileSymbol, fileSymbols}
+use Rattle.model.specs.ElfRefusals.{symbolTableOk}
 use Rattle.object_view.specs.NoIndex.{noIndex, isNone}
 use Rattle.records.specs.View.{nameIn, symbolAt, symbol-elf}
 use Rattle.object.specs.View.{symbolFrom}
-use Rattle.elf_laws.specs.Places.{records-tab, symbols-tab}
-use Rattle.elf_header.specs.Headers.{headersIn}
+use Rattle.elf_laws.specs.Places.{symbols-tab}
 use Rattle.elf_layout.specs.Layout.{tableSymbols, symbolsStart, elfView, layoutOf}
-use Rattle.elf_records.specs.Elf.{fieldAt, indexAt, sectionOrNone, kindOfInfo, definitionOf, num, entryAt, symbolSectionAt, symbolAddressAt, symbolNameAt, elfSymbol}
-use Rattle.elf_object.specs.Found.{passed-tab}
+use Rattle.elf_records.specs.Elf.{indexAt, sectionOrNone, kindOfInfo, definitionOf, num, entryAt, symbolSectionAt, symbolAddressAt, symbolNameAt, elfSymbol}
 use Rattle.elf_object.specs.Inside.{TablesRuled, view-order, view-sections, symbolStrings, symbol-strings, symbols-few, symbols-inside}
-use Rattle.elf_object.specs.Ranges.{field-part, field-in, field-first, byte-in, NameRead, name-read}
-use Rattle.elf_object.specs.Indexed.{Indexed}
+use Rattle.elf_object.specs.Ranges.{field-start, field-in, field-first, byte-in, NameRead, name-read}
+use Rattle.elf_object.specs.Indexed.{symbolNameOffset, Indexed}
+use Rattle.elf_object.specs.Named.{symbols-start, symbol-name-passes}
 
 -- ---- the entries
 
--- symbol number j of a file, counted from 0: its bytes, and where its name begins in its string table
-abbrev pub symbolEntry : List ℕ → ℕ → List ℕ
-symbolEntry f j = part f (elfView f .at .symbols + 24 * j) 24
+-- the bytes of symbol number j, counted from 0
+abbrev pub entryOfSymbol : List ℕ → ℕ → List ℕ
+entryOfSymbol f j = part f (elfView f .at .symbols + 24 * j) 24
 
-abbrev pub symbolNameOffset : List ℕ → ℕ → ℕ
-symbolNameOffset f j = field (fileOf f .order) (symbolEntry f j) 0 4
-
-symbols-start : (t : Header) (j : ℕ) → j < tableSymbols t → symbolsStart t ≡ t .offset + 24
-symbols-start t j l =
-    let e : eqb (tableSymbols t) 0 ≡ false = ne-eqb (tableSymbols t) 0 (λ z. let no : ⊥ = omega arith in no) in
-    ap (λ (b : Bool). cond b 0 (t .offset + 24)) e
+symbol-offset : (f : List ℕ) (j : ℕ) → field (fileOf f .order) (entryOfSymbol f j) 0 4 ≡ symbolNameOffset f j
+symbol-offset f j = sym (field-start f (elfView f .at .symbols + 24 * j) 24 (fileOf f .order) 4 (omega arith))
 
 -- the symbols of a file by their entries
 pub symbols-by-number : (f : List ℕ) → maybe (fileOf f .symbols) [] (fileSymbols f (fileOf f))
-    ≡ tab (λ j. fileSymbol (fileOf f .order) (symbolStrings f) (1 + j) (symbolEntry f j)) (elfView f .symbols)
+    ≡ tab (λ j. fileSymbol (fileOf f .order) (symbolStrings f) (1 + j) (entryOfSymbol f j)) (elfView f .symbols)
 unfolding elfView
 symbols-by-number f = go (fileOf f .symbols)
   where
@@ -62,49 +55,28 @@ symbols-by-number f = go (fileOf f .symbols)
         ∙ tab-ext _ _ (tableSymbols t)
         (λ j l. ap (λ (q : ℕ). fileSymbol (p .order) (stringsOf f p (t .link)) (1 + j) (part f (q + 24 * j) 24)) (sym (symbols-start t j l)))
 
--- their names pass
-pub symbol-name-passes : (f : List ℕ) → maybe (fileOf f .symbols) true (symbolTableOk f (fileOf f)) ≡ true → (j : ℕ) → j < elfView f .symbols
-    → stringOk (drop (symbolNameOffset f j) (symbolStrings f)) ≡ true
-unfolding elfView symbolTableOk
-symbol-name-passes f = go (fileOf f .symbols)
-  where
-    p : File
-    p = fileOf f
-
-    go : (y : Option Header) → maybe y true (symbolTableOk f p) ≡ true → (j : ℕ) → j < maybe y 0 tableSymbols
-        → stringOk (drop (field (p .order) (part f (maybe y 0 symbolsStart + 24 * j) 24) 0 4) (maybe y [] (λ t. stringsOf f p (t .link)))) ≡ true
-    go none e j l = let no : ⊥ = omega arith in absurd no
-    go (some t) e j l =
-        let s : List ℕ = stringsOf f p (t .link) in
-        let name : List ℕ → ℕ = λ r. field (p .order) r 0 4 in
-        let passes : ℕ → Bool = λ at. stringOk (drop at s) in
-        let a : all passes (records name 24 (tableSymbols t) (drop (t .offset + 24) f)) ≡ true =
-        both-true (wholeEntries t) _ (both-true (linksStrings (p .sections) (t .link)) _ e .1) .1
-        in
-        let b : all passes (tab (λ k. name (part f (t .offset + 24 + 24 * k) 24)) (tableSymbols t)) ≡ true =
-        ap (all passes) (sym (records-tab name 24 f (t .offset + 24) (tableSymbols t))) ∙ a
-        in
-        rw (symbols-start t j l) (passed-tab passes (λ k. name (part f (t .offset + 24 + 24 * k) 24)) (tableSymbols t) j b l)
-
 -- ---- the fields of an entry, by its record
 
 pub record EntryRead (f : List ℕ) (j : ℕ) : Type 0 where
   pub name : num f (elfView f) (entryAt f (elfView f) j) 4 ≡ symbolNameOffset f j
-  pub info : getD f (entryAt f (elfView f) j + 4) 0 ≡ u8 (symbolEntry f j) 4
-  pub section : num f (elfView f) (entryAt f (elfView f) j + 6) 2 ≡ field (fileOf f .order) (symbolEntry f j) 6 2
-  pub address : num f (elfView f) (entryAt f (elfView f) j + 8) 8 ≡ field (fileOf f .order) (symbolEntry f j) 8 8
-  pub size : num f (elfView f) (entryAt f (elfView f) j + 16) 8 ≡ field (fileOf f .order) (symbolEntry f j) 16 8
+  pub info : getD f (entryAt f (elfView f) j + 4) 0 ≡ u8 (entryOfSymbol f j) 4
+  pub section : num f (elfView f) (entryAt f (elfView f) j + 6) 2 ≡ field (fileOf f .order) (entryOfSymbol f j) 6 2
+  pub address : num f (elfView f) (entryAt f (elfView f) j + 8) 8 ≡ field (fileOf f .order) (entryOfSymbol f j) 8 8
+  pub size : num f (elfView f) (entryAt f (elfView f) j + 16) 8 ≡ field (fileOf f .order) (entryOfSymbol f j) 16 8
 
 module _ (f : List ℕ) (r : TablesRuled f (fileOf f)) (j : ℕ) (l : j < elfView f .symbols) where
   entry-read : EntryRead f j
   entry-read =
       let fits : elfView f .at .symbols + 24 * j + 24 ≤ length f = omega (arith, symbols-inside f r) in
       let order : elfView f .order ≡ fileOf f .order = view-order f in
-      let at : (k w : ℕ) → k + w ≤ 24 → num f (elfView f) (entryAt f (elfView f) j + k) w ≡ field (fileOf f .order) (symbolEntry f j) k w = λ k w h.
-      field-in f (elfView f .at .symbols + 24 * j) 24 fits (elfView f .order) k w h ∙ ap (λ (o : Endianness). field o (symbolEntry f j) k w) order
+      let at : (k w : ℕ) → k + w ≤ 24 → num f (elfView f) (entryAt f (elfView f) j + k) w ≡ field (fileOf f .order) (entryOfSymbol f j) k w = λ k w h.
+      field-in f (elfView f .at .symbols + 24 * j) 24 fits (elfView f .order) k w h ∙ ap (λ (o : Endianness). field o (entryOfSymbol f j) k w) order
       in
       record {
-        name = field-first f (elfView f .at .symbols + 24 * j) 24 fits (elfView f .order) 4 (omega arith) ∙ ap (λ (o : Endianness). field o (symbolEntry f j) 0 4) order;
+        name =
+            field-first f (elfView f .at .symbols + 24 * j) 24 fits (elfView f .order) 4 (omega arith)
+            ∙ ap (λ (o : Endianness). field o (entryOfSymbol f j) 0 4) order
+            ∙ symbol-offset f j;
         info = byte-in f (elfView f .at .symbols + 24 * j) 24 fits 4 (omega arith);
         section = at 6 2 (omega arith);
         address = at 8 8 (omega arith);
@@ -115,7 +87,7 @@ module _ (f : List ℕ) (r : TablesRuled f (fileOf f)) (j : ℕ) (l : j < elfVie
       → NameRead f (symbolStrings f) (elfView f .strings .symbols) (symbolNameOffset f j)
   symbol-name-read ok =
       name-read f (symbolStrings f) (elfView f .strings .symbols) (layoutOf f .ends .symbols) (symbolNameOffset f j) (r .short) (symbol-strings f r)
-      (symbol-name-passes f ok j l)
+      (symbol-name-passes f r ok j l)
 
 -- ---- the symbols that the records stand for
 
@@ -167,32 +139,28 @@ module _ (f t : List ℕ) (r : TablesRuled f (fileOf f)) (named : maybe (fileOf 
       ≡ extent (elfView f .strings .symbols + symbolNameOffset f j) (length (stringAt (symbolStrings f) (symbolNameOffset f j)))
   unfolding elfSymbol symbolNameAt
   symbol-name-at =
-      let z : elfView f .at .symbols + 24 * j + 0 ≡ elfView f .at .symbols + 24 * j = omega arith in
-      let e : field (fileOf f .order) f (elfView f .at .symbols + 24 * j) 4 ≡ symbolNameOffset f j =
-      ap (λ (p : ℕ). field (fileOf f .order) f p 4) (sym z) ∙ field-part f (elfView f .at .symbols + 24 * j) 24 (fileOf f .order) 0 4 (omega arith)
-      in
       let n : indexAt t (elfView f .sections + j) ≡ length (stringAt (symbolStrings f) (symbolNameOffset f j)) =
-      ap (λ (s : ℕ). indexAt t (s + j)) (view-sections f) ∙ x .symbol-lengths j l ∙ ap (λ (p : ℕ). length (stringAt (symbolStrings f) p)) e
+      ap (λ (s : ℕ). indexAt t (s + j)) (view-sections f) ∙ x .symbol-lengths j l
       in
       rw (entry-read f r j l .name, symbol-name-read f r j l named .uncut, n)
 
-  symbol-of-record : symbolFrom f t (elfView f) (elfSymbol f t (elfView f) j) ≡ fileSymbol (fileOf f .order) (symbolStrings f) (1 + j) (symbolEntry f j)
+  symbol-of-record : symbolFrom f t (elfView f) (elfSymbol f t (elfView f) j) ≡ fileSymbol (fileOf f .order) (symbolStrings f) (1 + j) (entryOfSymbol f j)
   unfolding symbolFrom elfSymbol symbolSectionAt symbolAddressAt fileSymbol elfView
   symbol-of-record =
       let e : EntryRead f j = entry-read f r j l in
       let index : (j + 1) % 4294967296 ≡ 1 + j = omega (arith, symbols-few f r) in
       let section : unlessNone (sectionOrNone (num f (elfView f) (entryAt f (elfView f) j + 6) 2) .0) (sectionOrNone (num f (elfView f) (entryAt f (elfView f) j + 6) 2))
-      ≡ symbolSection (field (fileOf f .order) (symbolEntry f j) 6 2) =
+      ≡ symbolSection (field (fileOf f .order) (entryOfSymbol f j) 6 2) =
       section-or-none (num f (elfView f) (entryAt f (elfView f) j + 6) 2) ∙ ap (λ (s : ℕ). symbolSection s) (e .section)
       in
-      let name : nameIn f (elfView f) (elfSymbol f t (elfView f) j .name) ≡ stringAt (symbolStrings f) (symbolNameOffset f j) =
-      rw (symbol-name-at, zero-add) (symbol-name-read f r j l named .bytes)
+      let name : nameIn f (elfView f) (elfSymbol f t (elfView f) j .name) ≡ stringAt (symbolStrings f) (field (fileOf f .order) (entryOfSymbol f j) 0 4) =
+      rw (symbol-name-at, zero-add, symbol-offset f j) (symbol-name-read f r j l named .bytes)
       in
-      let kind : symbolKind (kindOfInfo (getD f (entryAt f (elfView f) j + 4) 0)) ≡ kindByType (u8 (symbolEntry f j) 4 % 16) =
+      let kind : symbolKind (kindOfInfo (getD f (entryAt f (elfView f) j + 4) 0)) ≡ kindByType (u8 (entryOfSymbol f j) 4 % 16) =
       kind-of-info (getD f (entryAt f (elfView f) j + 4) 0) ∙ ap (λ (b : ℕ). kindByType (b % 16)) (e .info)
       in
       let definition : eqb (definitionOf (kindOfInfo (getD f (entryAt f (elfView f) j + 4) 0)) (sectionOrNone (num f (elfView f) (entryAt f (elfView f) j + 6) 2))) 1
-      ≡ isDefinition (u8 (symbolEntry f j) 4 % 16) (symbolSection (field (fileOf f .order) (symbolEntry f j) 6 2)) =
+      ≡ isDefinition (u8 (entryOfSymbol f j) 4 % 16) (symbolSection (field (fileOf f .order) (entryOfSymbol f j) 6 2)) =
       definition-is (getD f (entryAt f (elfView f) j + 4) 0) (num f (elfView f) (entryAt f (elfView f) j + 6) 2)
       ∙ (λ k. isDefinition (e .info k % 16) (symbolSection (e .section k)))
       in
@@ -207,6 +175,6 @@ module _ (f t : List ℕ) (r : TablesRuled f (fileOf f)) (named : maybe (fileOf 
       }
 
   -- a symbol by its record
-  pub symbol-is : symbolFrom f t (elfView f) (symbolAt f t (elfView f) j) ≡ fileSymbol (fileOf f .order) (symbolStrings f) (1 + j) (symbolEntry f j)
+  pub symbol-is : symbolFrom f t (elfView f) (symbolAt f t (elfView f) j) ≡ fileSymbol (fileOf f .order) (symbolStrings f) (1 + j) (entryOfSymbol f j)
   unfolding elfView
   symbol-is = ap (symbolFrom f t (elfView f)) (symbol-elf f t (elfView f) refl j) ∙ symbol-of-record

@@ -1,5 +1,5 @@
 -- The layout by the number of the symbol table, and why its places fit 32 bits.
-use mathlib.Core.Path.{_≡_, refl, sym, ap, _∙_}
+use mathlib.Core.Path.{_≡_, refl, ap, _∙_}
 use mathlib.Core.Bool.{Bool, true, false, cond, _&&_, _||_}
 use mathlib.Core.List.{List}
 use mathlib.Core.Option.{Option, none, some}
@@ -19,7 +19,7 @@ use Rattle.elf_header.specs.declared.FileHeader.{FileHeader}
 use Rattle.elf_header.specs.declared.Headers.{Headers}
 use Rattle.elf_header.specs.Headers.{headerIn, fileHeaderOf, headersOf, headersIn, sections-by-number, headers-present}
 use Rattle.elf_layout.specs.declared.Layout.{Layout}
-use Rattle.elf_layout.specs.Layout.{tablesOk, stringsStart, stringsAt, stringsEnd, tableSymbols, symbolsStart, tableNumber, elfView, layoutOf}
+use Rattle.elf_layout.specs.Layout.{tablesOk, stringsStart, tableSymbols, symbolsStart, tableNumber, elfView, layoutOf}
 use Rattle.elf_tables.specs.declared.Bounds.{Bounds}
 use Rattle.elf_tables.specs.Walks.{find-hit, all-tab-at}
 use Rattle.elf_tables.specs.Numbered.{sectionsBy, sectionBy, tableBy, hasSection, numbered-none, HasNumber, number-is, numbered-zero, first-table, fileBy}

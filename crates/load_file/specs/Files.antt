@@ -1,5 +1,5 @@
 -- A file that was checked and opened, for the load of what was opened.
-use mathlib.Core.Path.{_≡_, refl, sym, ap, _∙_}
+use mathlib.Core.Path.{_≡_, refl}
 use mathlib.Core.Bool.{Bool}
 use mathlib.Core.List.{List}
 use mathlib.Core.Option.{Option, none, some}
@@ -7,14 +7,10 @@ use Prim.Native.Nat.{ℕ, _≤_}
 use Rattle.model.specs.declared.Refusal.{Refusal}
 use Rattle.model.specs.declared.Room.{Room}
 use Rattle.model.specs.Bytes.{maybe}
-use Rattle.model.specs.Elf.{elfObjectOf}
 use Rattle.model.specs.ElfRefusals.{elfRefusal, loadElf, loadElfOf}
 use Rattle.model.specs.Lent.{outcomeIn}
-use Rattle.model.specs.PatchList.{patchesOf}
-use Rattle.model.specs.Patching.{load, refused}
 use Rattle.object_view.specs.declared.Opened.{Opened}
 use Rattle.object_view.specs.declared.View.{View}
-use Rattle.object.specs.View.{objectIn}
 use Rattle.elf_layout.specs.declared.FileCheck.{FileCheck}
 use Rattle.elf_layout.specs.Layout.{checkedFile, elfView}
 use Rattle.elf.specs.Opened.{indexLength, openedFile, FileOpened, checked-most}

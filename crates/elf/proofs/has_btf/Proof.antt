@@ -10,11 +10,6 @@ use Rattle.records.specs.Records.{cursor, step-record, step-end}
 use Rattle.elf.specs.Btf.{btfFrom, btf-next, btf-none, btf-all}
 use Rattle.elf.proofs.has_btf.Statement.{statement}
 use Rattle.elf.proofs.has_btf.Tie as tie
-use Rattle.elf.proofs.has_btf.Reads as reads
-use Rattle.elf.proofs.has_btf.Lts as lts
-use Rattle.elf.proofs.is_btf.Reads as is-btf-reads
-use Rattle.records.proofs.Cursor.new.Reads as new-reads
-use Rattle.records.proofs.Cursor.next.Reads as next-reads
 
 abbrev Inv-loop : tie.InvT-loop
 Inv-loop d t v c₀ c = (c .at ≤ c .end) × (c .end ≡ v .sections) × (hasBtf (objectIn d t v) ≡ btfFrom d t v (c .at))

@@ -5,12 +5,6 @@ use Rattle.elf.specs.Told.{sections-broken, symbols-broken, rest-length,
 use borrow.Author.Needs.{needs}
 use Rattle.elf.proofs.index.Statement.{statement}
 use Rattle.elf.proofs.index.Tie as tie
-use Rattle.elf.proofs.index.Reads as reads
-use Rattle.elf.proofs.index.Lts as lts
-use Rattle.elf.proofs.index_relocations.Reads as index-relocations-reads
-use Rattle.elf.proofs.index_section_names.Reads as index-section-names-reads
-use Rattle.elf.proofs.index_symbol_names.Reads as index-symbol-names-reads
-use Rattle.stream.proofs.size.Reads as size-reads
 
 size-requires : tie.Need-size-requires
 size-requires c κs = search needs

@@ -2,9 +2,6 @@
 use borrow.Author.Needs.{needs}
 use Rattle.elf.proofs.index_length.Statement.{statement}
 use Rattle.elf.proofs.index_length.Tie as tie
-use Rattle.elf.proofs.index_length.Reads as reads
-use Rattle.elf.proofs.index_length.Lts as lts
-use Rattle.stream.proofs.size.Reads as size-reads
 
 enum-told : tie.Need-enum-told
 enum-told c = search needs

@@ -4,10 +4,6 @@ use Rattle.elf.specs.Asked.{relocations-ask, relocations-said}
 use borrow.Author.Needs.{needs}
 use Rattle.elf.proofs.index_relocations.Statement.{statement}
 use Rattle.elf.proofs.index_relocations.Tie as tie
-use Rattle.elf.proofs.index_relocations.Reads as reads
-use Rattle.elf.proofs.index_relocations.Lts as lts
-use Rattle.elf_relocations.proofs.place_relocations.Reads as place-relocations-reads
-use Rattle.stream.proofs.size.Reads as size-reads
 
 size-requires : tie.Need-size-requires
 size-requires c κs = search needs

@@ -4,13 +4,6 @@ use Rattle.object.specs.View.{sectionFrom}
 use borrow.Author.Needs.{needs}
 use Rattle.elf.proofs.is_btf.Statement.{statement}
 use Rattle.elf.proofs.is_btf.Tie as tie
-use Rattle.elf.proofs.is_btf.Reads as reads
-use Rattle.elf.proofs.is_btf.Lts as lts
-use Rattle.names.proofs.same.Reads as same-reads
-use Rattle.records.proofs.gap.Reads as gap-reads
-use Rattle.records.proofs.name_at.Reads as name-at-reads
-use Rattle.records.proofs.section_name.Reads as section-name-reads
-use Rattle.stream.proofs.size.Reads as size-reads
 
 section-name-requires : tie.Need-section-name-requires
 section-name-requires c κs = search needs

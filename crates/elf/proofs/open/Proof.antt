@@ -6,9 +6,6 @@ use Rattle.elf.specs.Told.{opens-refused}
 use borrow.Author.Needs.{needs}
 use Rattle.elf.proofs.open.Statement.{statement}
 use Rattle.elf.proofs.open.Tie as tie
-use Rattle.elf.proofs.open.Reads as reads
-use Rattle.elf.proofs.open.Lts as lts
-use Rattle.elf.proofs.open_layout.Reads as open-layout-reads
 
 enum-known-checked : tie.Need-enum-known-checked
 enum-known-checked c = search needs

@@ -5,11 +5,6 @@ use Rattle.elf.specs.Told.{opens-broken, opens-btf, opens-view}
 use borrow.Author.Needs.{needs}
 use Rattle.elf.proofs.open_layout.Statement.{statement}
 use Rattle.elf.proofs.open_layout.Tie as tie
-use Rattle.elf.proofs.open_layout.Reads as reads
-use Rattle.elf.proofs.open_layout.Lts as lts
-use Rattle.elf.proofs.has_btf.Reads as has-btf-reads
-use Rattle.elf.proofs.index.Reads as index-reads
-use Rattle.elf.proofs.refusal.Reads as refusal-reads
 
 index-requires : tie.Need-index-requires
 index-requires c κs = search needs

@@ -2,9 +2,6 @@ use borrow.Author.Needs.{needs}
 use borrow.Author.Tests.{eq-eqb, ne-eqb}
 use Rattle.elf_header.proofs.entries.Statement.{statement}
 use Rattle.elf_header.proofs.entries.Tie as tie
-use Rattle.elf_header.proofs.entries.Reads as reads
-use Rattle.elf_header.proofs.entries.Lts as lts
-use Rattle.elf_records.proofs.two.Reads as two-reads
 
 returns : tie.Need-returns
 returns c = rw (eq-eqb _ _ (c .if1 .taken))

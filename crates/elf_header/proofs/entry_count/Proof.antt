@@ -2,11 +2,6 @@
 use borrow.Author.Needs.{needs}
 use Rattle.elf_header.proofs.entry_count.Statement.{statement}
 use Rattle.elf_header.proofs.entry_count.Tie as tie
-use Rattle.elf_header.proofs.entry_count.Reads as reads
-use Rattle.elf_header.proofs.entry_count.Lts as lts
-use Rattle.elf_header.proofs.entry_size.Reads as entry-size-reads
-use Rattle.elf_header.proofs.section_size.Reads as section-size-reads
-use Rattle.elf_header.proofs.section_type.Reads as section-type-reads
 
 section-type-requires : tie.Need-section-type-requires
 section-type-requires c κs = search needs

@@ -4,8 +4,6 @@ use native.Mathlib.Omega.{arith}
 use borrow.Author.Tests.{eq-eqb, ne-eqb}
 use Rattle.elf_header.proofs.entry_size.Statement.{statement}
 use Rattle.elf_header.proofs.entry_size.Tie as tie
-use Rattle.elf_header.proofs.entry_size.Reads as reads
-use Rattle.elf_header.proofs.entry_size.Lts as lts
 
 returns : tie.Need-returns
 returns c = rw (eq-eqb _ _ (c .if1 .taken)) (refl, omega arith, omega arith)

@@ -6,12 +6,6 @@ use Rattle.model.specs.Elf.{fileOrder, field, fileOf}
 use Rattle.elf_header.specs.Headers.{entriesAt, fileHeaderOf}
 use Rattle.elf_header.proofs.file_header.Statement.{statement}
 use Rattle.elf_header.proofs.file_header.Tie as tie
-use Rattle.elf_header.proofs.file_header.Reads as reads
-use Rattle.elf_header.proofs.file_header.Lts as lts
-use Rattle.elf_header.proofs.entries.Reads as entries-reads
-use Rattle.elf_header.proofs.file_order.Reads as file-order-reads
-use Rattle.elf_records.proofs.eight_in.Reads as eight-in-reads
-use Rattle.elf_records.proofs.two.Reads as two-reads
 
 file-order-requires : tie.Need-file-order-requires
 file-order-requires c κs = search needs

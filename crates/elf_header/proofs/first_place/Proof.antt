@@ -2,8 +2,6 @@ use borrow.Author.Needs.{needs}
 use borrow.Author.Tests.{eq-eqb, ne-eqb}
 use Rattle.elf_header.proofs.first_place.Statement.{statement}
 use Rattle.elf_header.proofs.first_place.Tie as tie
-use Rattle.elf_header.proofs.first_place.Reads as reads
-use Rattle.elf_header.proofs.first_place.Lts as lts
 
 returns : tie.Need-returns
 returns c = rw (eq-eqb _ _ (c .if1 .taken))

@@ -3,12 +3,6 @@ use borrow.Author.Tests.{eq-eqb, ne-eqb, not-true, not-false}
 use borrow.Author.Needs.{needs}
 use Rattle.elf_header.proofs.in_use.Statement.{statement}
 use Rattle.elf_header.proofs.in_use.Tie as tie
-use Rattle.elf_header.proofs.in_use.Reads as reads
-use Rattle.elf_header.proofs.in_use.Lts as lts
-use Rattle.elf_header.proofs.is_relocations.Reads as is-relocations-reads
-use Rattle.elf_header.proofs.section_info.Reads as section-info-reads
-use Rattle.elf_header.proofs.section_link.Reads as section-link-reads
-use Rattle.elf_header.proofs.section_type.Reads as section-type-reads
 
 section-type-requires : tie.Need-section-type-requires
 section-type-requires c κs = search needs

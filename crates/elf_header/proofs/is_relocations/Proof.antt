@@ -2,8 +2,6 @@
 use borrow.Author.Tests.{eq-eqb, ne-eqb}
 use Rattle.elf_header.proofs.is_relocations.Statement.{statement}
 use Rattle.elf_header.proofs.is_relocations.Tie as tie
-use Rattle.elf_header.proofs.is_relocations.Reads as reads
-use Rattle.elf_header.proofs.is_relocations.Lts as lts
 
 returns : tie.Need-returns
 returns c = rw (eq-eqb _ _ (c .if1 .taken))

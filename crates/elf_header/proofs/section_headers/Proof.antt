@@ -4,10 +4,6 @@ use borrow.Author.Needs.{needs}
 use Rattle.elf_header.specs.Headers.{presentSections, firstPlace, headersOf}
 use Rattle.elf_header.proofs.section_headers.Statement.{statement}
 use Rattle.elf_header.proofs.section_headers.Tie as tie
-use Rattle.elf_header.proofs.section_headers.Reads as reads
-use Rattle.elf_header.proofs.section_headers.Lts as lts
-use Rattle.elf_header.proofs.first_place.Reads as first-place-reads
-use Rattle.elf_header.proofs.present_sections.Reads as present-sections-reads
 
 present-sections-requires : tie.Need-present-sections-requires
 present-sections-requires c κs = search needs

@@ -7,10 +7,6 @@ use Rattle.model.specs.Elf.{headerOf}
 use Rattle.elf_header.specs.Headers.{header-field}
 use Rattle.elf_header.proofs.section_info.Statement.{statement}
 use Rattle.elf_header.proofs.section_info.Tie as tie
-use Rattle.elf_header.proofs.section_info.Reads as reads
-use Rattle.elf_header.proofs.section_info.Lts as lts
-use Rattle.elf_records.proofs.four_in.Reads as four-in-reads
-use Rattle.stream.proofs.size.Reads as size-reads
 
 size-requires : tie.Need-size-requires
 size-requires c κs = search needs

@@ -2,9 +2,6 @@
 use borrow.Author.Needs.{needs}
 use Rattle.load_elf.proofs.is_small.Statement.{statement}
 use Rattle.load_elf.proofs.is_small.Tie as tie
-use Rattle.load_elf.proofs.is_small.Reads as reads
-use Rattle.load_elf.proofs.is_small.Lts as lts
-use Rattle.elf.proofs.index_length.Reads as index-length-reads
 
 index-length-requires : tie.Need-index-length-requires
 index-length-requires c κs = search needs
