@@ -1,11 +1,10 @@
 -- `load_numbers::load_flat` meets its contract.
+use mathlib.Core.Path.{_≡_, ap, _∙_}
 use mathlib.Core.List.{[]}
-use Prim.Native.Nat.{ℕ}
 use denote.Ref.{now}
-use lib.ListN.{length, replicate, length-replicate}
-use Rattle.model.specs.FunctionNumbers.{rowsIn, flatRoom}
-use Rattle.rows_functions.specs.Rows.{rowsMade}
-use Rattle.load_numbers.specs.Loads.{opens-few, flat-loads}
+use lib.ListN.{length}
+use Rattle.model.specs.FunctionNumbers.{flatOf, flatRoom}
+use Rattle.load_numbers.specs.Loads.{deposit-opens, deposit-loads}
 use borrow.Author.Needs.{needs}
 use Rattle.load_numbers.proofs.load_flat.Statement.{statement}
 use Rattle.load_numbers.proofs.load_flat.Tie as tie
@@ -13,26 +12,14 @@ use Rattle.load_numbers.proofs.load_flat.Tie as tie
 open-requires : tie.Need-open-requires
 open-requires c κs = search needs
 
-slice-aggregate-load-core : tie.Need-slice-aggregate-load-core
-slice-aggregate-load-core c = search needs
+slice-aggregate-load-flat-opened : tie.Need-slice-aggregate-load-flat-opened
+slice-aggregate-load-flat-opened c = search needs
 
-slice-aggregate-load-core-2 : tie.Need-slice-aggregate-load-core-2
-slice-aggregate-load-core-2 c = search needs
-
-load-core-requires : tie.Need-load-core-requires
-load-core-requires c κs =
+load-flat-opened-requires : tie.Need-load-flat-opened-requires
+load-flat-opened-requires c κs =
     let o = c .before .before .before .before .before .before .before in
     let a = o .before .before .before .before .before .before .before .before .before .before .args in
-    opens-few (now (a .d)) [] (o .«open» .result) (o .«open» .ensures) (replicate 65536 0) (length-replicate {A = ℕ} 65536 0)
-
-slice-aggregate-fill-rows : tie.Need-slice-aggregate-fill-rows
-slice-aggregate-fill-rows c = search needs
-
-slice-aggregate-fill-rows-2 : tie.Need-slice-aggregate-fill-rows-2
-slice-aggregate-fill-rows-2 c = search needs
-
-fill-rows-requires : tie.Need-fill-rows-requires
-fill-rows-requires c κs = search needs
+    deposit-opens (now (a .d)) [] (o .«open» .result) (o .«open» .ensures)
 
 same-length : tie.Need-same-length
 same-length c = search needs
@@ -54,27 +41,21 @@ same-length-6 c = search needs
 
 returns : tie.Need-returns
 returns c =
-    let f = c .before .before .fill-rows in
-    let h = c .before .before .before .before .before .before .before .before .before .before .before .before .before .before .before .before .before .before in
-    let k = h .load-core in
+    let h = c .before .before .before .before .before .before .before .before .before .before .before .before in
     let o = h .before .before .before .before .before .before .before .before in
     let a = o .before .before .before .before .before .before .before .before .before .before .args in
-    flat-loads (now (a .d)) [] (o .«open» .result) (o .«open» .ensures) (now (a .entries)) (now (a .patches)) (a .rewrite)
-    (flatRoom (now (a .sections)) (now (a .programs)) (now (a .functions)) (now (a .maps)) (now (a .relocations)) (now (a .bytes)))
-    (length (now (a .functions))) (k .result .answer) (k .last .1 .1 .1 .1 .1 .1 .1 .0) (k .last .1 .1 .1 .1 .1 .1 .1 .1 .0) (f .last .0) (k .last .1 .1 .1 .1 .1 .1 .1 .1 .1 .0) (k .last .1 .1 .1 .1 .1 .1 .1 .1 .1 .1 .0) (k .last .1 .1 .1 .1 .1 .1 .1 .1 .1 .1 .1 .0)
-    (rowsMade (now (a .d)) [] (k .last .1 .1 .1 .1 .1 .1 .1 .1 .1 .1 .1 .1 .0) 0 (k .result .rows) (rowsIn (length (now (a .functions))))) (f .ensures) (k .ensures .0)
+    h .load-flat-opened .ensures
+    ∙ ap (flatOf (length (now (a .functions))))
+    (deposit-loads (now (a .d)) [] (o .«open» .result) (o .«open» .ensures) (now (a .entries)) (now (a .patches)) (a .rewrite)
+    (flatRoom (now (a .sections)) (now (a .programs)) (now (a .functions)) (now (a .maps)) (now (a .relocations)) (now (a .bytes))))
 
 pub load-flat-spec : {M : Type 1} → statement M
 load-flat-spec =
     tie.close
     (tie.spec
     open-requires
-    slice-aggregate-load-core
-    slice-aggregate-load-core-2
-    load-core-requires
-    slice-aggregate-fill-rows
-    slice-aggregate-fill-rows-2
-    fill-rows-requires
+    slice-aggregate-load-flat-opened
+    load-flat-opened-requires
     same-length
     same-length-2
     same-length-3
