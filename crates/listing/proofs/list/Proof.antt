@@ -13,11 +13,12 @@ use Rattle.model.specs.Lent.{Outcome, loadOf}
 use Rattle.model.specs.declared.Room.{Room}
 use Rattle.model.specs.Listing.{refusalText, listingOf}
 use Rattle.encoding.specs.Code.{all-bytes}
-use Rattle.listing.specs.Numbers.{flat-answer, flat-tables}
+use Rattle.guarantees.specs.WordsOfDemand3.{Input}
+use Rattle.listing_laws.specs.Numbers.{flat-answer, flat-tables}
 use Rattle.listing_text.specs.Laid.{same-text, whole-text}
-use Rattle.listing.specs.Bound.{refusal-most}
-use Rattle.listing.specs.Text.{answer-fits, answer-text, text-most, long-text, short-text}
-use Rattle.listing.specs.Written.{counted}
+use Rattle.listing_laws.specs.Bound.{refusal-most}
+use Rattle.listing_laws.specs.Text.{answer-fits, answer-text, text-most, long-text, short-text}
+use Rattle.listing_laws.specs.Written.{counted}
 use borrow.Author.Needs.{needs}
 use Rattle.listing.proofs.list.Statement.{statement}
 use Rattle.listing.proofs.list.Tie as tie
@@ -65,7 +66,7 @@ put-answer-requires c κs =
     let o : Outcome = loadOf d [] [] false room in
     let r : Answer = f .load-flat .result in
     let n : ℕ = length (now (a .functions)) in
-    (omega arith, answer-fits d [] [] false room _ _ _ _ (flat-tables n o r _ _ _ _ _ _ (f .load-flat .ensures)) r (flat-answer n o r _ _ _ _ _ _ (f .load-flat .ensures)))
+    (omega arith, answer-fits (Input.deposit d) [] [] false room _ _ _ _ (flat-tables n o r _ _ _ _ _ _ (f .load-flat .ensures)) r (flat-answer n o r _ _ _ _ _ _ (f .load-flat .ensures)))
 
 same-length-2 : tie.Need-same-length-2
 same-length-2 c = search needs
@@ -101,9 +102,9 @@ returns-2 c =
     let o : Outcome = loadOf d [] [] false room in
     let n : ℕ = length (now (a .functions)) in
     let e : r ≡ o .reply = flat-answer n o r _ _ _ _ _ _ (f .load-flat .ensures) in
-    let t = answer-text d [] [] false room _ _ _ _ (flat-tables n o r _ _ _ _ _ _ (f .load-flat .ensures)) r e ∙ sym (short-text room d (i .if1 .left)) in
+    let t = answer-text (Input.deposit d) [] [] false room _ _ _ _ (flat-tables n o r _ _ _ _ _ _ (f .load-flat .ensures)) r e ∙ sym (short-text room d (i .if1 .left)) in
     let small : AllBytes d = all-bytes d (λ k. i .before .before .before .before .before .before .before .before .shared-slice-known .given k .fits) in
-    let m : length (listingOf room d) ≤ room .bytes + 10 * room .programs + 73 * room .functions + 3 * room .maps + 71 = rw (short-text room d (i .if1 .left)) (text-most d [] [] false room small r e) in
+    let m : length (listingOf room d) ≤ room .bytes + 10 * room .programs + 73 * room .functions + 3 * room .maps + 71 = rw (short-text room d (i .if1 .left)) (text-most (Input.deposit d) [] [] false room small r e) in
     let l = same-text t (p .put-answer .ensures) in
     (counted (p .put-answer .result) (p .put-answer .last .0) (l .within), whole-text (omega (arith, s .pre)) l)
 

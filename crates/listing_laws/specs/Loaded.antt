@@ -14,16 +14,16 @@ use Rattle.model.specs.declared.Answer.{Answer}
 use Rattle.model.specs.Bytes.{each, records}
 use Rattle.model.specs.Catalogue.{Program, Function, Map}
 use Rattle.model.specs.FunctionNumbers.{flatRows}
-use Rattle.model.specs.Lent.{loadOf, fitsIn, imageOf, summaryOf, placed, programName, functionName, functionCode, mapName, mapOwn, nothing, programRow, functionRow, mapRow, programsAt, functionsAt, codeStart, mapsAt, ownStart}
+use Rattle.model.specs.Lent.{fitsIn, imageOf, summaryOf, placed, programName, functionName, functionCode, mapName, mapOwn, nothing, programRow, functionRow, mapRow, programsAt, functionsAt, codeStart, mapsAt, ownStart}
 use Rattle.model.specs.declared.Room.{Room}
 use Rattle.model.specs.Listing.{catalogueText}
 use Rattle.model.specs.ReadBack.{functionRead, readBack}
 use Rattle.lists.specs.Tests.{both-true}
 use Rattle.catalogue_laws.specs.Placed.{length-joined}
-use Rattle.guarantees.specs.WordsOfDemand3.{Input}
+use Rattle.guarantees.specs.WordsOfDemand3.{Input, outcomeOn}
 use Rattle.guarantees.specs.LentBack.{Given, given-is, lent-lengths}
 use Rattle.rows_numbers.specs.Flat.{length-flat}
-use Rattle.listing.specs.Numbers.{Flat}
+use Rattle.listing_laws.specs.Numbers.{Flat}
 use Rattle.listing_text.specs.Flat.{rowFrom, functionFrom, topText, flatText, RowsFit}
 
 functions-read : (b : List ℕ) (n : ℕ) (rows : List FunctionRow) (rest : List ℕ) → n ≤ length rows
@@ -53,9 +53,9 @@ pub record CountsWithin (room : Room) (h : Summary) : Type 0 where
   pub maps : h .maps * 27 ≤ room .maps
   pub bytes : h .bytes ≤ room .bytes
 
-module _ (d entries patches : List ℕ) (on : Bool) (room : Room) (h : Summary) (accepted : loadOf d entries patches on room .reply ≡ Answer.Accepted h) where
-  given : Given (Input.deposit d) entries patches on room h
-  given = given-is (Input.deposit d) entries patches on room h accepted
+module _ (x : Input) (entries patches : List ℕ) (on : Bool) (room : Room) (h : Summary) (accepted : outcomeOn x entries patches on room .reply ≡ Answer.Accepted h) where
+  given : Given x entries patches on room h
+  given = given-is x entries patches on room h accepted
 
   pub within : CountsWithin room h
   unfolding fitsIn imageOf summaryOf
@@ -87,21 +87,21 @@ module _ (d entries patches : List ℕ) (on : Bool) (room : Room) (h : Summary) 
       record { programs = omega arith; functions = omega arith; maps = omega arith; bytes = omega arith }
 
   -- the tables have the rows that the summary counts, and their text is the answer's
-  module _ (programs functions maps bytes : List ℕ) (flat : Flat (loadOf d entries patches on room .lent) programs functions maps bytes) where
+  module _ (programs functions maps bytes : List ℕ) (flat : Flat (outcomeOn x entries patches on room .lent) programs functions maps bytes) where
     pub rows-fit : RowsFit h programs functions maps
     rows-fit =
-        let n = lent-lengths (Input.deposit d) entries patches on room in
+        let n = lent-lengths x entries patches on room in
         let p : length programs ≡ room .programs = ap length (flat .same-programs) ∙ n .programs in
         let m : length maps ≡ room .maps = ap length (flat .same-maps) ∙ n .maps in
-        let f : length functions ≡ length (loadOf d entries patches on room .lent .functions) * 7 + length (flat .rest) =
-        ap length (flat .same-functions) ∙ length-append (flatRows (loadOf d entries patches on room .lent .functions)) (flat .rest) ∙ ap (λ k. k + length (flat .rest)) (length-flat (loadOf d entries patches on room .lent .functions))
+        let f : length functions ≡ length (outcomeOn x entries patches on room .lent .functions) * 7 + length (flat .rest) =
+        ap length (flat .same-functions) ∙ length-append (flatRows (outcomeOn x entries patches on room .lent .functions)) (flat .rest) ∙ ap (λ k. k + length (flat .rest)) (length-flat (outcomeOn x entries patches on room .lent .functions))
         in
-        let g : length (loadOf d entries patches on room .lent .functions) ≡ room .functions = n .functions in
+        let g : length (outcomeOn x entries patches on room .lent .functions) ≡ room .functions = n .functions in
         record { programs = omega (arith, within .programs); functions = omega (arith, within .functions); maps = omega (arith, within .maps) }
 
-    pub flat-is : flatText h programs functions maps bytes ≡ catalogueText (readBack h (loadOf d entries patches on room .lent))
+    pub flat-is : flatText h programs functions maps bytes ≡ catalogueText (readBack h (outcomeOn x entries patches on room .lent))
     unfolding flatText topText catalogueText readBack
     flat-is =
-        let g : h .functions ≤ length (loadOf d entries patches on room .lent .functions) = omega (arith, within .functions, lent-lengths (Input.deposit d) entries patches on room .functions) in
-        rw (flat .same-programs, flat .same-functions, flat .same-maps, flat .same-bytes, functions-read (loadOf d entries patches on room .lent .bytes) (h .functions) (loadOf d entries patches on room .lent .functions) (flat .rest) g)
+        let g : h .functions ≤ length (outcomeOn x entries patches on room .lent .functions) = omega (arith, within .functions, lent-lengths x entries patches on room .functions) in
+        rw (flat .same-programs, flat .same-functions, flat .same-maps, flat .same-bytes, functions-read (outcomeOn x entries patches on room .lent .bytes) (h .functions) (outcomeOn x entries patches on room .lent .functions) (flat .rest) g)
         (simp append-assoc)

@@ -1,4 +1,4 @@
--- What the proofs of `listing` cite.
+-- What the proofs of `listing` and `listing_elf` cite.
 pub mod Written
 pub mod Numbers
 pub mod Loaded
