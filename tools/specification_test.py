@@ -19,7 +19,8 @@ Bytes.AllBytes""".split()
 # The public calls. Of the kit's crates a contract may cite io, which says how many bytes are written.
 CALLS = [("load", "lib", "load"), ("load_elf", "lib", "load_elf"), ("rows_functions", "lib", "find"), ("buncoyew", "lib", "buncoyew_load"),
          ("buncoyew", "lib", "buncoyew_load_elf"), ("buncoyew", "lib", "buncoyew_find"),
-         ("load_numbers", "lib", "load_flat"), ("listing", "main", "list")]
+         ("load_numbers", "lib", "load_flat"), ("load_elf_numbers", "lib", "load_flat_elf"), ("listing", "main", "list"),
+         ("listing_elf", "main", "list")]
 BELIEVED = ("model", "io")
 
 
