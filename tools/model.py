@@ -2,7 +2,7 @@
 
 load(deposit, entries, patches, rewrite, room) gives the answer and what each lent element holds at the end. `entries` is the patch list as it is
 lent, numbers over the bytes `patches`; `room` has the six lent lengths, that of the function table in numbers too, seven a row.
-An answer is ('accepted', byte order, version or None for any, licence length, and the counts of sections, programs, functions, maps, relocations,
+load_object is the load from 3 on, of an object. An answer is ('accepted', byte order, version or None for any, licence length, and the counts of sections, programs, functions, maps, relocations,
 bytes) or ('refused', number, section, symbol, entry)."""
 import struct
 from collections import namedtuple
@@ -93,7 +93,6 @@ def object_of(stream):
         need(section != 0 and kind < 3 and definition < 2 and not any(stream[symbols_at + 40 * k + 34 : symbols_at + 40 * k + 40]), 2)
         symbols.append(Symbol(index, section, name_of(at, length), address, size, kind, definition))
     need(rises([x.index for x in sections]) and rises([x.index for x in symbols]), 2)
-    need(all(x.name != b".BTF" for x in sections), 3)
     return Object(order, sections, symbols)
 
 
@@ -350,8 +349,8 @@ def image(c):
     return rows
 
 
-def loaded(deposit, entries, patches, rewrite, room):
-    o = object_of(stream_of(deposit))
+def loaded(o, entries, patches, rewrite, room):
+    need(all(x.name != b".BTF" for x in o.sections), 3)
     c = Catalogue(o)
     patch(c, o.symbols, entries, patches)
     if rewrite:
@@ -362,11 +361,20 @@ def loaded(deposit, entries, patches, rewrite, room):
     return ("accepted", c.order, c.version, len(c.licence), *(len(rows[table]) for table in TABLES)), rows
 
 
-def load(deposit, entries, patches, rewrite, room):
-    """The answer, and what each lent slice holds: a list of numbers for each name of TABLES."""
+def outcome(read, entries, patches, rewrite, room):
     try:
-        answer, rows = loaded(deposit, entries, patches, rewrite, room)
+        answer, rows = loaded(read(), entries, patches, rewrite, room)
     except Refused as refused:
         answer, rows = refused.answer, {table: [] for table in TABLES}
     numbers = {table: [x for row in rows[table] for x in row] for table in TABLES}
     return answer, {table: numbers[table] + [0] * (room[table] - len(numbers[table])) for table in TABLES}
+
+
+def load(deposit, entries, patches, rewrite, room):
+    """The answer, and what each lent slice holds: a list of numbers for each name of TABLES."""
+    return outcome(lambda: object_of(stream_of(deposit)), entries, patches, rewrite, room)
+
+
+def load_object(o, entries, patches, rewrite, room):
+    """The same of an object, from 3 on."""
+    return outcome(lambda: o, entries, patches, rewrite, room)

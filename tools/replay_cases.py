@@ -1,14 +1,16 @@
 #!/usr/bin/env python3
 """replay_cases.py CRATE: writes CRATE/stdin, cases of a load one a line, and CRATE/stdout, what the program must print of each, by tools/model.py.
+The cases of deposits stand here, those of ELF files in tools/elf_cases.py.
 
 Run at the repository's top:  python3 tools/replay_cases.py crates/replay
-A line of stdin: name, deposit, patch entries (numbers joined by commas), patch bytes, rewriting (0, 1), and the six lent lengths of sections,
-programs, functions, maps, relocations, bytes. Bytes are hexadecimal; `xx(n)` is the byte xx and n more of it. `-` is nothing."""
+A line of stdin: name, deposit or file, patch entries (numbers joined by commas), patch bytes, what is loaded (0 a deposit, 1 one with rewriting,
+2 a file, 3 one with rewriting), and the six lent lengths of sections, programs, functions, maps, relocations, bytes. Bytes are hexadecimal; `xx(n)` is the byte xx and n more of it. `-` is nothing."""
 import os
 import random
 import struct
 import sys
 
+import elf_cases
 import model
 
 NONE, TOP = model.NONE, model.TOP
@@ -1293,7 +1295,10 @@ def line_of(name, deposit, entries, lent, rewrite, room):
 
 
 def printed(name, deposit, entries, lent, rewrite, room):
-    answer, held = model.load(deposit, entries, lent, rewrite, room)
+    return told(name, *model.load(deposit, entries, lent, rewrite, room))
+
+
+def told(name, answer, held):
     words = ["any" if x is None else str(x) for x in answer]
     out = name + " " + " ".join(words) + "\n"
     if not any(any(values) for values in held.values()):
@@ -1301,6 +1306,11 @@ def printed(name, deposit, entries, lent, rewrite, room):
     for table in model.TABLES[:-1]:
         out += " ".join([table] + packed(held[table], "%d")) + "\n"
     return out + "bytes " + "".join(packed(held["bytes"], "%02x")) + "\n"
+
+
+def file_texts(case):
+    """The name of a file's case, its line, and what is printed of it."""
+    return case.name, line_of(*case[:6]), told(case.name, case.answer, case.held)
 
 
 def crate_part(path):
@@ -1317,15 +1327,16 @@ def main():
     if len(sys.argv) != 2:
         print(__doc__)
         return 2
-    cases = all_cases()
+    cases = [(case[0], line_of(*case), printed(*case)) for case in all_cases()]
+    cases += [file_texts(case) for case in elf_cases.all_cases()]
     named = [case[0] for case in cases]
     if len(set(named)) != len(named):
         raise SystemExit("one name twice: %r" % sorted(x for x in set(named) if named.count(x) > 1))
-    for file, text_of in (("stdin", line_of), ("stdout", printed)):
+    for file, part in (("stdin", 1), ("stdout", 2)):
         path = os.path.join(sys.argv[1], file)
         recorded = crate_part(path)
         with open(path, "w", encoding="ascii", newline="\n") as f:
-            f.writelines(text_of(*case) for case in cases)
+            f.writelines(case[part] for case in cases)
             f.writelines(recorded)
     print("%d cases" % len(cases))
     return 0
