@@ -2,7 +2,7 @@
 
 A file is written from a description, and what a load must answer is tools/model.py's answer on the records of that description, or 25 or 26 as the
 reading says: no file is read here. A case's name begins with the number that it must raise, 0 where it is accepted, and ends with the byte order.
-Left out are the limits that need huge files: the file's length, 65,536 symbols, 65,536 relocations, and data as long as they may be."""
+Left out are the limits that need 16 MiB: those of the file's length, and of a section's size where it has data."""
 import random
 import struct
 from collections import namedtuple
@@ -872,8 +872,9 @@ def whole_entries(c):
     c.changed(0, "symbols-of-24", no_symbol)
 
 
-def many_sections(c):
-    """4,097 entries of the section header table fit (E14): headers of zeros, whose name is empty."""
+def most_records(c):
+    """4,097 entries of the section header table fit (E14), 65,537 symbol entries (E25), 65,536 relocations in all (E30). The bytes of each are the
+    same, so that a line is short: headers and symbols of zeros, relocations of ones."""
 
     def zeros(n):
         def make(order):
@@ -888,6 +889,39 @@ def many_sections(c):
 
     c.both(0, "headers-4097", zeros(4097))
     c.both(26, "headers-4098", zeros(4098))
+
+    def symbols(n):
+        def make(order):
+            f = File(order)
+            f.tables()
+            f.symtab.data = bytes(24 * n)
+            for _ in range(n - 1):
+                f.symbol("", NONE, 0, 0, OTHER)
+            return f.naming()
+
+        return make
+
+    c.both(0, "symbols-65537", symbols(65537))
+    c.both(26, "symbols-65538", symbols(65538))
+
+    def relocations(*tables):
+        """Tables of so many entries each, REL and RELA by turns. An entry's offset, symbol and type are ones in all their bytes."""
+
+        def make(order):
+            f = File(order)
+            text = f.code(".text", b"")
+            f.tables()
+            for k, n in enumerate(tables):
+                kind = (REL, RELA)[k % 2]
+                f.section("r%d" % k, kind, b"\1" * (ENTRY[kind] * n), link=f.symtab.index, info=text.index)
+                text.relocations += [model.Relocation(0x0101010101010101, 0x01010101, 0)] * n
+            return f.naming()
+
+        return make
+
+    for name, most, more in (("rel", (65536,), (65537,)), ("rela", (0, 65536), (0, 65537)), ("both", (65535, 1), (65535, 2)), ("three", (1, 1, 65534), (1, 1, 65535))):
+        c.both(0, "relocations-%s-65536" % name, relocations(*most))
+        c.both(26, "relocations-%s-65537" % name, relocations(*more))
 
 
 # ---- what files state
@@ -1273,7 +1307,7 @@ def all_cases():
     c = Cases()
     for group in (identification, numbers_of_header, cut_headers, entry_sizes, not_in_use, cut_tables, orders_of_numbers):
         group(c)
-    for group in (header_table, sections_outside, links, names, whole_entries, many_sections):
+    for group in (header_table, sections_outside, links, names, whole_entries, most_records):
         group(c)
     for group in (symbols_stated, relocations_stated, sections_stated, whole_loads, rooms):
         group(c)

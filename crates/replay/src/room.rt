@@ -3,17 +3,18 @@
 ghost use mathlib.Core.Path.{_≡_};
 ghost use lib.ListN.{length};
 
-// The lines of all cases.
-pub fn text() -> [u8; 4194304]
-    ensures { λ r. ⌜ 4194304 ≡ length r ⌝ }
+// A part of the lines of the cases, each of which it holds.
+pub fn text() -> [u8; 524288]
+    ensures { λ r. ⌜ 524288 ≡ length r ⌝ }
 {
-    [0; 4194304]
+    [0; 524288]
 }
 
-pub fn deposit() -> [u8; 131072]
-    ensures { λ r. ⌜ 131072 ≡ length r ⌝ }
+// A deposit or a file.
+pub fn deposit() -> [u8; 2097152]
+    ensures { λ r. ⌜ 2097152 ≡ length r ⌝ }
 {
-    [0; 131072]
+    [0; 2097152]
 }
 
 // What is written of a case.

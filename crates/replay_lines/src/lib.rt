@@ -1,6 +1,6 @@
-// The lines of recorded cases. A line's words are a name, a deposit, patch entries, patch bytes, rewriting (0 or 1), and the six lent lengths of
-// sections, programs, functions, maps, relocations and bytes. Bytes are hexadecimal, `xx(n)` is the byte xx and n more of it; entries are numbers
-// joined by commas; `-` is nothing.
+// The lines of recorded cases. A line's words are a name, a deposit or a file, patch entries, patch bytes, what is loaded (0 a deposit, 1 one with
+// rewriting, 2 a file, 3 one with rewriting), and the six lent lengths of sections, programs, functions, maps, relocations and bytes. Bytes are
+// hexadecimal, `xx(n)` is the byte xx and n more of it; entries are numbers joined by commas; `-` is nothing.
 // What is written of a case is its name and the answer, then `zeros` if all that was lent is 0, else the five tables and the bytes, where `x(n)` again
 // is x and n more of it.
 ghost use Prim.Native.Nat.{_+_, _≤_, _<_};
@@ -409,7 +409,7 @@ pub fn tell(
 
 // ---- a case
 
-// The lengths of a case: of its name, of what it lends to be read, and of what it lends to be written; rewriting stands in front of the last six.
+// The lengths of a case: of its name, of what it lends to be read, and of what it lends to be written; what is loaded stands in front of the last six.
 pub struct Case {
     pub name: usize,
     pub deposit: usize,

@@ -1,16 +1,16 @@
--- `run` is safe and ends.
+-- `run` is safe and ends; what it leaves begins in the text.
 use mathlib.Core.Path.{_≡_}
-use Prim.Native.Nat.{_+_, _-_, _≤_}
+use Prim.Native.Nat.{_-_, _≤_}
 use lib.ListN.{length}
 use borrow.Author.Needs.{needs}
 use Rattle.replay.proofs.run.Statement.{statement}
 use Rattle.replay.proofs.run.Tie as tie
 
 abbrev Inv-loop : tie.InvT-loop
-Inv-loop text d₀ entries₀ patches₀ at₀ d entries patches at = (at ≤ length text + 1) × (length d ≡ length d₀) × (length entries ≡ length entries₀) × (length patches ≡ length patches₀)
+Inv-loop text d₀ entries₀ patches₀ at₀ d entries patches at = (at ≤ length text) × (length d ≡ length d₀) × (length entries ≡ length entries₀) × (length patches ≡ length patches₀)
 
 abbrev μ-loop : tie.MeasureT-loop
-μ-loop text d₀ entries₀ patches₀ at₀ d entries patches at = length text + 1 - at
+μ-loop text d₀ entries₀ patches₀ at₀ d entries patches at = length text - at
 
 loop-holds : tie.Need-loop-holds Inv-loop μ-loop
 loop-holds c = search needs
@@ -51,6 +51,18 @@ same-length-3 c = search needs
 returns : tie.Need-returns Inv-loop μ-loop
 returns c = search needs
 
+same-length-4 : tie.Need-same-length-4 Inv-loop μ-loop
+same-length-4 c = search needs
+
+same-length-5 : tie.Need-same-length-5 Inv-loop μ-loop
+same-length-5 c = search needs
+
+same-length-6 : tie.Need-same-length-6 Inv-loop μ-loop
+same-length-6 c = search needs
+
+returns-2 : tie.Need-returns-2 Inv-loop μ-loop
+returns-2 c = search needs
+
 pub run-spec : {M : Type 1} → statement M
 run-spec =
     tie.close
@@ -69,4 +81,8 @@ run-spec =
     same-length
     same-length-2
     same-length-3
-    returns)
+    returns
+    same-length-4
+    same-length-5
+    same-length-6
+    returns-2)

@@ -6,7 +6,7 @@ use Rattle.replay.proofs.room.deposit.Statement.{statement}
 use Rattle.replay.proofs.room.deposit.Tie as tie
 
 returns : tie.Need-returns
-returns c = sym (length-replicate {0} {A = ℕ} 131072 0)
+returns c = sym (length-replicate {0} {A = ℕ} 2097152 0)
 
 pub deposit-spec : {M : Type 1} → statement M
 deposit-spec = tie.close (tie.spec returns)

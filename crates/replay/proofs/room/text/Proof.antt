@@ -6,7 +6,7 @@ use Rattle.replay.proofs.room.text.Statement.{statement}
 use Rattle.replay.proofs.room.text.Tie as tie
 
 returns : tie.Need-returns
-returns c = sym (length-replicate {0} {A = ℕ} 4194304 0)
+returns c = sym (length-replicate {0} {A = ℕ} 524288 0)
 
 pub text-spec : {M : Type 1} → statement M
 text-spec = tie.close (tie.spec returns)
