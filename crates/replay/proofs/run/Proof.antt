@@ -1,4 +1,4 @@
--- `run` is safe and ends; what it leaves begins in the text.
+-- `run` is safe and ends.
 use mathlib.Core.Path.{_≡_}
 use Prim.Native.Nat.{_-_, _≤_}
 use lib.ListN.{length}
