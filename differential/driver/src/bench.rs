@@ -6,7 +6,7 @@ use std::time::Duration;
 use aya_obj::Object;
 
 use crate::answer::{Answer, Room};
-use crate::case::{Case, Judge, Records};
+use crate::case::{Case, Form, Judge, Records};
 use crate::clock::thread_time;
 use crate::made::{data_section, falling, functions, mixed, program_sections, rising};
 use crate::theirs::aligned;
@@ -38,7 +38,7 @@ fn series(name: &str, most: u64, make: impl Fn(u64) -> Records) {
     for count in (0..4).rev().map(|k| most >> (4 * k)).filter(|n| *n >= 16) {
         let records = make(count);
         let object = elf::write(&records);
-        let case = case(deposit::lay_out(&records));
+        let case = case(Form::Deposit, deposit::lay_out(&records));
         let row = [(case, object, room::enough(&records))];
         before = Some(told(&format!("{count} {name}"), &row, before));
     }
@@ -54,7 +54,7 @@ fn real(folder: &Path) -> bool {
         ) else {
             return false;
         };
-        let case = case(deposit);
+        let case = case(Form::Deposit, deposit);
         if let (Answer::Accepted(s), _) = ours::load(&case, &objects::ROOM, 0) {
             accepted.push((case, object, Room::of(s.taken())));
         }
@@ -63,10 +63,11 @@ fn real(folder: &Path) -> bool {
     true
 }
 
-pub fn case(deposit: Vec<u8>) -> Case {
+pub fn case(form: Form, input: Vec<u8>) -> Case {
     Case {
         aim: "",
-        deposit,
+        form,
+        input,
         records: None,
         entries: Vec::new(),
         patches: Vec::new(),
@@ -89,7 +90,7 @@ fn told(name: &str, cases: &[(Case, Vec<u8>, Room)], before: Option<Duration>) -
     });
     let objects: Vec<&[u8]> = cases.iter().map(|(_, object, _)| &object[..]).collect();
     let theirs = parse(&objects);
-    let bytes: usize = cases.iter().map(|(case, ..)| case.deposit.len()).sum();
+    let bytes: usize = cases.iter().map(|(case, ..)| case.input.len()).sum();
     let (ratio, growth) = (times(theirs, ours), times_or_none(Some(ours), before));
     println!("{name}, {bytes}, {ours:.1?}, {theirs:.1?}, {ratio}, {growth}");
     ours

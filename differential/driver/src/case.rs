@@ -1,4 +1,4 @@
-//! What one run takes: a deposit by its records, or as damaged bytes; a patch list; rewriting; what is expected.
+//! What one run takes: a deposit or an ELF file, with what it states; a patch list; rewriting; what is expected.
 
 /// The number that stands for no section or no symbol.
 pub const NONE: u32 = 0xFFFF_FFFF;
@@ -70,7 +70,7 @@ pub struct Refusal {
 /// Who says what is right.
 #[derive(Clone, Debug, PartialEq, Eq)]
 pub enum Judge {
-    /// The crate, run on `records` as an ELF file with `list`: the case is in document 01's domain of comparison.
+    /// The crate, run with `list` on `records` as an ELF file, or on the file: the case is in document 01's domain of comparison.
     Crate,
     /// The crate, given one entry of `list` after the other: on the whole list its hash order would show.
     CrateByEntry,
@@ -80,12 +80,20 @@ pub enum Judge {
     None,
 }
 
+/// Which call takes the input.
+#[derive(Clone, Copy, Debug, PartialEq, Eq)]
+pub enum Form {
+    Deposit,
+    File,
+}
+
 #[derive(Clone, Debug)]
 pub struct Case {
     /// What the case was made to reach, for the counts.
     pub aim: &'static str,
-    pub deposit: Vec<u8>,
-    /// What the deposit was laid out from; none where its bytes were damaged.
+    pub form: Form,
+    pub input: Vec<u8>,
+    /// What a deposit was laid out from, or a file states; none where the bytes are damaged.
     pub records: Option<Records>,
     /// The patch list as it is lent: five numbers an entry over `patches`.
     pub entries: Vec<u64>,

@@ -214,7 +214,8 @@ fn section_header(section: &SectionRecord, name: u32) -> Header {
     }
 }
 
-fn head(big: bool, headers_at: u64, headers: u16, strings_index: u16) -> Vec<u8> {
+/// The file's header.
+pub fn head(big: bool, headers_at: u64, headers: u16, strings_index: u16) -> Vec<u8> {
     let mut out = Out {
         bytes: vec![0x7F, b'E', b'L', b'F', 2, if big { 2 } else { 1 }, 1],
         big,
@@ -233,28 +234,29 @@ fn head(big: bool, headers_at: u64, headers: u16, strings_index: u16) -> Vec<u8>
     out.bytes
 }
 
+/// A section's header.
 #[derive(Default)]
-struct Header {
-    name: u32,
-    kind: u32,
-    flags: u64,
-    address: u64,
-    offset: u64,
-    size: u64,
-    link: u32,
-    info: u32,
-    align: u64,
-    entry: u64,
+pub struct Header {
+    pub name: u32,
+    pub kind: u32,
+    pub flags: u64,
+    pub address: u64,
+    pub offset: u64,
+    pub size: u64,
+    pub link: u32,
+    pub info: u32,
+    pub align: u64,
+    pub entry: u64,
 }
 
 /// Bytes with numbers in the object's byte order.
-struct Out {
-    bytes: Vec<u8>,
-    big: bool,
+pub struct Out {
+    pub bytes: Vec<u8>,
+    pub big: bool,
 }
 
 impl Out {
-    fn u16(&mut self, n: u16) {
+    pub fn u16(&mut self, n: u16) {
         self.bytes.extend(if self.big {
             n.to_be_bytes()
         } else {
@@ -262,7 +264,7 @@ impl Out {
         });
     }
 
-    fn u32(&mut self, n: u32) {
+    pub fn u32(&mut self, n: u32) {
         self.bytes.extend(if self.big {
             n.to_be_bytes()
         } else {
@@ -270,7 +272,7 @@ impl Out {
         });
     }
 
-    fn u64(&mut self, n: u64) {
+    pub fn u64(&mut self, n: u64) {
         self.bytes.extend(if self.big {
             n.to_be_bytes()
         } else {
@@ -290,7 +292,7 @@ impl Out {
         at
     }
 
-    fn header(&mut self, header: &Header) {
+    pub fn header(&mut self, header: &Header) {
         self.u32(header.name);
         self.u32(header.kind);
         for n in [header.flags, header.address, header.offset, header.size] {

@@ -1,13 +1,16 @@
 //! One case: the load call is run on it, held to its judge, and to what needs no judge.
 use crate::answer::{Answer, Lent, Room, Summary};
-use crate::case::{Case, Judge, Refusal};
+use crate::case::{Case, Form, Judge, Refusal};
+use crate::rules::MOST_BYTES;
 use crate::theirs::{Given, Theirs};
-use crate::{compare, elf, lay, ours, room, theirs};
+use crate::{compare, deposit, files, lay, ours, room, theirs};
 
 /// What our call gave, for the counts.
 pub struct Run {
     pub answer: Answer,
     pub lent: Lent,
+    /// How the crate got the input, where it judged.
+    pub given: Option<&'static str>,
 }
 
 /// What is wrong with our answer, if anything is.
@@ -34,8 +37,13 @@ pub fn hold(case: &Case) -> Result<Run, String> {
     ensure(again == (answer, lent.clone()), || {
         "what was lent before the call shows".into()
     })?;
-    judged(case, &answer, &lent)?;
-    Ok(Run { answer, lent })
+    let given = judged(case, &answer, &lent)?;
+    same_as_deposit(case, &answer, &lent)?;
+    Ok(Run {
+        answer,
+        lent,
+        given,
+    })
 }
 
 fn ensure(holds: bool, otherwise: impl FnOnce() -> String) -> Result<(), String> {
@@ -129,27 +137,49 @@ fn same_without_room(case: &Case, refusal: &Refusal) -> Result<(), String> {
     })
 }
 
-fn judged(case: &Case, answer: &Answer, lent: &Lent) -> Result<(), String> {
+/// A file's answer is that of the deposit which states the same, where one is short enough.
+fn same_as_deposit(case: &Case, answer: &Answer, lent: &Lent) -> Result<(), String> {
+    let records = match &case.records {
+        Some(r) if case.form == Form::File && deposit::length(r) <= MOST_BYTES => r,
+        _ => return Ok(()),
+    };
+    let stated = Case {
+        form: Form::Deposit,
+        input: deposit::lay_out(records),
+        ..case.clone()
+    };
+    let (other, held) = ours::load(&stated, &lent_for(case), 0x5A);
+    ensure(other == *answer, || {
+        format!("{answer:?}, and the deposit of what it states {other:?}")
+    })?;
+    ensure(held == *lent, || {
+        "the deposit of what it states gives another catalogue".into()
+    })
+}
+
+/// How the crate got the input, where it is the judge.
+fn judged(case: &Case, answer: &Answer, lent: &Lent) -> Result<Option<&'static str>, String> {
     match &case.judge {
-        Judge::None => Ok(()),
-        Judge::Known(refusal) => ensure(*answer == Answer::Refused(*refusal), || {
-            format!("made to be {refusal:?}, is {answer:?}")
-        }),
+        Judge::None => Ok(None),
+        Judge::Known(refusal) => {
+            ensure(*answer == Answer::Refused(*refusal), || {
+                format!("made to be {refusal:?}, is {answer:?}")
+            })?;
+            Ok(None)
+        }
         Judge::Crate | Judge::CrateByEntry => {
-            match compare::difference(answer, lent, &by_crate(case)) {
-                None => Ok(()),
-                Some(text) => Err(text),
+            let (theirs, given) = by_crate(case);
+            match compare::difference(answer, lent, &theirs) {
+                None => Ok(Some(given)),
+                Some(text) => Err(format!("{text} (the crate got it {given})")),
             }
         }
     }
 }
 
-/// What the crate makes of a case that it judges.
-pub fn by_crate(case: &Case) -> Theirs {
-    let records = case
-        .records
-        .as_ref()
-        .expect("a case that the crate judges has records");
+/// What the crate makes of a case that it judges, and how it got the input.
+fn by_crate(case: &Case) -> (Theirs, &'static str) {
+    let file = files::given(case);
     let list = case
         .list
         .as_ref()
@@ -159,13 +189,8 @@ pub fn by_crate(case: &Case) -> Theirs {
     } else {
         Given::Whole
     };
-    theirs::run(
-        &elf::write(records),
-        records.sections.len() as u32,
-        list,
-        given,
-        case.rewrite,
-    )
+    let theirs = theirs::run(&file.file, file.sections, list, given, case.rewrite);
+    (theirs, file.how)
 }
 
 /// A case for the record: its lent lengths, a little more than the catalogue takes; the answer and what it lays in them.
@@ -181,7 +206,7 @@ pub fn recorded(case: &Case, run: &Run) -> (Room, Answer, Lent) {
     }
     let room = Room::of(lengths);
     if case.judge != Judge::None
-        && let Theirs::Accepted(catalogue) = by_crate(case)
+        && let (Theirs::Accepted(catalogue), _) = by_crate(case)
     {
         let answer = Answer::Accepted(lay::summary(&catalogue));
         return (room, answer, lay::lent(&catalogue, &room));

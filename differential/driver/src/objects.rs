@@ -5,7 +5,7 @@ use std::fs;
 use std::path::{Path, PathBuf};
 
 use crate::answer::{Answer, Room};
-use crate::case::{Case, Judge, Refusal};
+use crate::case::{Case, Form, Judge, Refusal};
 use crate::theirs::{Given, Theirs};
 use crate::{compare, ours, theirs};
 
@@ -88,12 +88,25 @@ pub fn objects(folder: &Path) -> std::io::Result<Vec<PathBuf>> {
     Ok(files)
 }
 
+/// The objects of a folder, where one is said.
+pub fn read(folders: &[&str]) -> Option<Vec<Vec<u8>>> {
+    match folders {
+        [] => Some(Vec::new()),
+        [folder] => {
+            let files = objects(Path::new(folder)).ok()?;
+            files.into_iter().map(|f| fs::read(f).ok()).collect()
+        }
+        _ => None,
+    }
+}
+
 fn beside(file: &Path) -> Result<Held, String> {
     let read = |f: &Path| fs::read(f).map_err(|e| format!("{}: {e}", name(f)));
     let object = read(file)?;
     let case = Case {
         aim: "a real object",
-        deposit: read(&file.with_extension("deposit"))?,
+        form: Form::Deposit,
+        input: read(&file.with_extension("deposit"))?,
         records: None,
         entries: Vec::new(),
         patches: Vec::new(),

@@ -1,11 +1,11 @@
-//! The proved load call, through its C interface: include/buncoyew.h.
+//! The proved load calls, through their C interface: include/buncoyew.h.
 use crate::answer::{Answer, Function, Lent, Room, Summary};
-use crate::case::{Case, Refusal};
+use crate::case::{Case, Form, Refusal};
 
 #[repr(C)]
-#[derive(Default)]
-struct LoadAnswer {
-    number: u32,
+#[derive(Clone, Copy, Debug, Default, PartialEq, Eq)]
+pub struct LoadAnswer {
+    pub number: u32,
     section: u32,
     symbol: u32,
     order: u32,
@@ -21,10 +21,76 @@ struct LoadAnswer {
     bytes: u64,
 }
 
+/// What is read: the input, the patch list and whether to rewrite.
+#[derive(Clone, Copy)]
+pub struct Read<'a> {
+    pub form: Form,
+    pub input: &'a [u8],
+    pub entries: &'a [u64],
+    pub patches: &'a [u8],
+    pub rewrite: bool,
+}
+
+/// What is lent to be written.
+pub struct Written<'a> {
+    pub sections: &'a mut [u64],
+    pub programs: &'a mut [u64],
+    pub functions: &'a mut [Function],
+    pub maps: &'a mut [u64],
+    pub relocations: &'a mut [u64],
+    pub bytes: &'a mut [u8],
+    pub answer: &'a mut LoadAnswer,
+}
+
+type Load = unsafe extern "C" fn(
+    input: *const u8,
+    input_length: usize,
+    entries: *const u64,
+    entries_length: usize,
+    patches: *const u8,
+    patches_length: usize,
+    rewrite: bool,
+    sections: *mut u64,
+    sections_length: usize,
+    programs: *mut u64,
+    programs_length: usize,
+    functions: *mut Function,
+    functions_length: usize,
+    maps: *mut u64,
+    maps_length: usize,
+    relocations: *mut u64,
+    relocations_length: usize,
+    bytes: *mut u8,
+    bytes_length: usize,
+    answer: *mut LoadAnswer,
+);
+
 unsafe extern "C" {
     fn buncoyew_load(
         deposit: *const u8,
         deposit_length: usize,
+        entries: *const u64,
+        entries_length: usize,
+        patches: *const u8,
+        patches_length: usize,
+        rewrite: bool,
+        sections: *mut u64,
+        sections_length: usize,
+        programs: *mut u64,
+        programs_length: usize,
+        functions: *mut Function,
+        functions_length: usize,
+        maps: *mut u64,
+        maps_length: usize,
+        relocations: *mut u64,
+        relocations_length: usize,
+        bytes: *mut u8,
+        bytes_length: usize,
+        answer: *mut LoadAnswer,
+    );
+    fn buncoyew_load_elf(
+        file: *const u8,
+        file_length: usize,
         entries: *const u64,
         entries_length: usize,
         patches: *const u8,
@@ -61,32 +127,61 @@ pub fn load(case: &Case, room: &Room, fill: u8) -> (Answer, Lent) {
 
 pub fn load_into(case: &Case, lent: &mut Lent) -> Answer {
     let mut answer = LoadAnswer::default();
+    let written = Written {
+        sections: &mut lent.sections,
+        programs: &mut lent.programs,
+        functions: &mut lent.functions,
+        maps: &mut lent.maps,
+        relocations: &mut lent.relocations,
+        bytes: &mut lent.bytes,
+        answer: &mut answer,
+    };
+    call(Read::of(case), written);
+    answer.told()
+}
+
+pub fn call(read: Read, written: Written) {
+    let load: Load = match read.form {
+        Form::Deposit => buncoyew_load,
+        Form::File => buncoyew_load_elf,
+    };
     // Each slice goes as its pointer and its length; no two of those that are written overlap.
     unsafe {
-        buncoyew_load(
-            case.deposit.as_ptr(),
-            case.deposit.len(),
-            case.entries.as_ptr(),
-            case.entries.len(),
-            case.patches.as_ptr(),
-            case.patches.len(),
-            case.rewrite,
-            lent.sections.as_mut_ptr(),
-            lent.sections.len(),
-            lent.programs.as_mut_ptr(),
-            lent.programs.len(),
-            lent.functions.as_mut_ptr(),
-            lent.functions.len(),
-            lent.maps.as_mut_ptr(),
-            lent.maps.len(),
-            lent.relocations.as_mut_ptr(),
-            lent.relocations.len(),
-            lent.bytes.as_mut_ptr(),
-            lent.bytes.len(),
-            &mut answer,
+        load(
+            read.input.as_ptr(),
+            read.input.len(),
+            read.entries.as_ptr(),
+            read.entries.len(),
+            read.patches.as_ptr(),
+            read.patches.len(),
+            read.rewrite,
+            written.sections.as_mut_ptr(),
+            written.sections.len(),
+            written.programs.as_mut_ptr(),
+            written.programs.len(),
+            written.functions.as_mut_ptr(),
+            written.functions.len(),
+            written.maps.as_mut_ptr(),
+            written.maps.len(),
+            written.relocations.as_mut_ptr(),
+            written.relocations.len(),
+            written.bytes.as_mut_ptr(),
+            written.bytes.len(),
+            written.answer,
         );
     }
-    answer.told()
+}
+
+impl<'a> Read<'a> {
+    pub fn of(case: &'a Case) -> Read<'a> {
+        Read {
+            form: case.form,
+            input: &case.input,
+            entries: &case.entries,
+            patches: &case.patches,
+            rewrite: case.rewrite,
+        }
+    }
 }
 
 /// The row of the function at an address of a section, among the first `count`.

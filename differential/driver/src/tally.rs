@@ -2,11 +2,11 @@
 use std::collections::{BTreeMap, BTreeSet};
 
 use crate::answer::Answer;
-use crate::case::{Case, Judge, Records, SectionRecord};
+use crate::case::{Case, Form, Judge, Records, SectionRecord};
 use crate::hold::Run;
 use crate::kinds::{self, Kind, PREFIXES};
 use crate::rules::{broken, piece};
-use crate::{domain, reach};
+use crate::{domain, files, reach};
 
 #[derive(Default)]
 pub struct Tally {
@@ -23,6 +23,10 @@ pub struct Tally {
     /// Why cases that pass 1 to 3 are outside the domain of comparison.
     pub outside: BTreeMap<&'static str, u64>,
     pub aims: BTreeMap<&'static str, u64>,
+    /// How the crate got the files that it judged.
+    pub given: BTreeMap<&'static str, u64>,
+    /// What files had in them.
+    pub files: BTreeMap<&'static str, u64>,
 }
 
 impl Tally {
@@ -44,6 +48,9 @@ impl Tally {
         if let Some(why) = outside(case) {
             *self.outside.entry(why).or_default() += 1;
         }
+        if case.form == Form::File {
+            self.count_file(case, run);
+        }
         if let Answer::Accepted(s) = run.answer {
             for row in run.lent.programs.chunks(7).take(s.programs as usize) {
                 *self.variants.entry([row[2], row[3], row[4]]).or_default() += 1;
@@ -60,6 +67,19 @@ impl Tally {
         }
         for call in reach::calls(case, records) {
             *self.calls.entry(call).or_default() += 1;
+        }
+    }
+
+    fn count_file(&mut self, case: &Case, run: &Run) {
+        if let Some(given) = run.given {
+            *self.given.entry(given).or_default() += 1;
+        }
+        for feature in case
+            .records
+            .iter()
+            .flat_map(|r| files::features(&case.input, r))
+        {
+            *self.files.entry(feature).or_default() += 1;
         }
     }
 
@@ -80,6 +100,8 @@ impl Tally {
         sum(&mut self.calls, other.calls);
         sum(&mut self.outside, other.outside);
         sum(&mut self.aims, other.aims);
+        sum(&mut self.given, other.given);
+        sum(&mut self.files, other.files);
     }
 
     pub fn print(&self) {
@@ -107,6 +129,10 @@ impl Tally {
             "immediates 112 to 115 where rewriting is on: {}",
             rewriting(&self.calls)
         );
+        if !self.files.is_empty() {
+            println!("files with:{}", listed(self.files.iter()));
+            println!("given to the crate:{}", listed(self.given.iter()));
+        }
         println!("outside the domain:{}", listed(self.outside.iter()));
         println!("made for:{}", listed(self.aims.iter()));
     }
@@ -136,7 +162,10 @@ fn outside(case: &Case) -> Option<&'static str> {
         Some(list) => list,
         None => return Some("patch list outside its buffer"),
     };
-    domain::comparable(records, list).err()
+    match case.form {
+        Form::Deposit => domain::comparable(records, list).err(),
+        Form::File => domain::comparable_file(records, list).err(),
+    }
 }
 
 fn kind(records: &Records, section: &SectionRecord) -> &'static str {

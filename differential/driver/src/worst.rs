@@ -5,7 +5,7 @@ use std::time::Duration;
 
 use crate::answer::{Answer, Room};
 use crate::bench::{case, least, parse, times, times_or_none};
-use crate::case::{Case, Extent, Patch, Records, RelocationRecord};
+use crate::case::{Case, Extent, Form, Patch, Records, RelocationRecord};
 use crate::made::{data, falling, function, functions, mixed, name, own_section, rising, section};
 use crate::rng::Rng;
 use crate::rules::{MOST_BYTES, MOST_NAME, MOST_RECORDS, MOST_SECTIONS, piece};
@@ -147,7 +147,7 @@ fn ours_alone(name: &str, records: &Records, list: List) -> Duration {
 
 fn row(name: &str, records: &Records, list: List, theirs: Option<Duration>) -> Duration {
     let entries = list.0;
-    let case = list.lent_to(case(deposit::lay_out(records)));
+    let case = list.lent_to(case(Form::Deposit, deposit::lay_out(records)));
     let mut lent = ours::filled(&ROOM, 0);
     let mut number = 0;
     let ours = least(|| {
@@ -157,7 +157,7 @@ fn row(name: &str, records: &Records, list: List, theirs: Option<Duration>) -> D
         }
     });
     assert!(number == 0 || number > 3, "{name}: not opened, {number}");
-    let bytes = case.deposit.len();
+    let bytes = case.input.len();
     let parse = theirs.map_or("-".to_string(), |t| format!("{t:.1?}"));
     let ratio = times_or_none(theirs, Some(ours));
     let over = if ours > LIMIT { ", OVER 5 s" } else { "" };
@@ -323,7 +323,7 @@ mod tests {
             function(&mut records, name, 8 * k as u64, 8);
         }
         records.sections[0].bytes = data;
-        let case = List(1, "f7", 0).lent_to(case(deposit::lay_out(&records)));
+        let case = List(1, "f7", 0).lent_to(case(Form::Deposit, deposit::lay_out(&records)));
         let load = move || {
             let mut lent = ours::filled(&ROOM, 0);
             ours::load_into(&case, &mut lent)

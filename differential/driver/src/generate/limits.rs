@@ -169,10 +169,7 @@ mod tests {
             let number = if case.aim == "limit: deposit" { 1 } else { 2 };
             assert_eq!(case.judge, known(number, 0), "{}", case.aim);
         }
-        assert!(at.iter().any(|case| case.deposit.len() == 16_777_216));
-        assert!(
-            past.iter()
-                .any(|case| case.deposit.len() == 16_777_216 + 512)
-        );
+        assert!(at.iter().any(|case| case.input.len() == 16_777_216));
+        assert!(past.iter().any(|case| case.input.len() == 16_777_216 + 512));
     }
 }

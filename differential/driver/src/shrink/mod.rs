@@ -1,11 +1,14 @@
 //! Makes a failing case smaller as long as it still fails.
 mod edits;
+mod file_edits;
 
 use std::ops::Range;
 
-use crate::case::{Case, Records};
+use crate::case::{Case, Form, Records};
 use crate::deposit::{BLOCK, STREAM, lay_out, read, seal};
-use crate::domain::{judge, known};
+use crate::domain::{judge, judge_file, known};
+use crate::files;
+use crate::generate::Lent;
 use crate::patch_list::{lend, listed};
 
 use edits::{without, zeroed};
@@ -36,10 +39,10 @@ impl Search<'_> {
     /// Tries each way once; whether one helped.
     fn pass(&mut self) -> bool {
         let list = self.list();
-        let object = if self.best.records.is_some() {
-            self.records()
-        } else {
-            self.damaged()
+        let object = match (self.best.form, &self.best.records) {
+            (Form::File, _) => self.file(),
+            (Form::Deposit, Some(_)) => self.records(),
+            (Form::Deposit, None) => self.damaged(),
         };
         list || object
     }
@@ -53,7 +56,7 @@ impl Search<'_> {
             return false;
         }
         self.tries += 1;
-        self.bytes += case.deposit.len();
+        self.bytes += case.input.len();
         let failed = (self.fails)(&case);
         if failed {
             self.best = case;
@@ -63,7 +66,7 @@ impl Search<'_> {
 
     fn is_best(&self, case: &Case) -> bool {
         let best = &self.best;
-        case.deposit == best.deposit
+        case.input == best.input
             && case.entries == best.entries
             && case.patches == best.patches
             && case.rewrite == best.rewrite
@@ -205,12 +208,53 @@ impl Search<'_> {
         )
     }
 
+    /// A file: fewer sections, fewer bytes, smaller numbers, more zeros.
+    fn file(&mut self) -> bool {
+        let mut helped = self.runs(
+            |case| file_edits::sections(&case.input),
+            |case, run| {
+                let less = file_edits::without_sections(&case.input, run)?;
+                Some(of_file(case, less))
+            },
+        );
+        for table in 0..file_edits::table_count(&self.best.input) {
+            helped |= self.runs(
+                |case| file_edits::entries(&case.input, table),
+                |case, run| {
+                    let less = file_edits::without_entries(&case.input, table, run)?;
+                    Some(of_file(case, less))
+                },
+            );
+        }
+        helped |= self.runs(
+            |case| case.input.len(),
+            |case, run| {
+                let less = file_edits::without_bytes(&case.input, run)?;
+                Some(of_file(case, less))
+            },
+        );
+        helped |= self.runs(
+            |case| case.input.len(),
+            |case, run| Some(of_file(case, case.input[..run.start].to_vec())),
+        );
+        let values = file_edits::values(&self.best.input);
+        helped |= self.values(values, |case, place, n| {
+            let changed = file_edits::with_number(&case.input, place, n);
+            of_file(case, changed.unwrap_or_else(|| case.input.clone()))
+        });
+        helped |= self.runs(
+            |case| case.input.len(),
+            |case, run| Some(of_file(case, zeroed(&case.input, run)?)),
+        );
+        helped
+    }
+
     /// A case of damaged bytes: fewer blocks, more zeros, the checks as they are or made again.
     fn damaged(&mut self) -> bool {
-        let blocks = |case: &Case| case.deposit.len().div_ceil(BLOCK);
+        let blocks = |case: &Case| case.input.len().div_ceil(BLOCK);
         let block_run = |case: &Case, run: Range<usize>| {
-            let end = (BLOCK * run.end).min(case.deposit.len());
-            without(&case.deposit, BLOCK * run.start..end)
+            let end = (BLOCK * run.end).min(case.input.len());
+            without(&case.input, BLOCK * run.start..end)
         };
         let mut helped = self.runs(blocks, |case, run| {
             Some(of_bytes(case, block_run(case, run)))
@@ -219,12 +263,12 @@ impl Search<'_> {
             Some(of_bytes(case, resealed(&block_run(case, run))))
         });
         helped |= self.runs(
-            |case| case.deposit.len(),
-            |case, run| Some(of_bytes(case, zeroed(&case.deposit, run)?)),
+            |case| case.input.len(),
+            |case, run| Some(of_bytes(case, zeroed(&case.input, run)?)),
         );
         helped |= self.runs(
-            |case| case.deposit.len(),
-            |case, run| Some(of_bytes(case, resealed(&zeroed(&case.deposit, run)?))),
+            |case| case.input.len(),
+            |case, run| Some(of_bytes(case, resealed(&zeroed(&case.input, run)?))),
         );
         helped
     }
@@ -237,7 +281,8 @@ fn records(case: &Case) -> &Records {
 fn of_records(case: &Case, records: Records) -> Case {
     Case {
         aim: case.aim,
-        deposit: lay_out(&records),
+        form: Form::Deposit,
+        input: lay_out(&records),
         judge: judge(&records, &case.entries, &case.patches),
         records: Some(records),
         entries: case.entries.clone(),
@@ -247,10 +292,21 @@ fn of_records(case: &Case, records: Records) -> Case {
     }
 }
 
+fn of_file(case: &Case, input: Vec<u8>) -> Case {
+    let lent = Lent {
+        aim: "",
+        entries: case.entries.clone(),
+        patches: case.patches.clone(),
+    };
+    files::of_file(case.aim, input, lent, case.rewrite)
+}
+
 fn of_list(case: &Case, entries: Vec<u64>, patches: Vec<u8>) -> Case {
-    let judge = case.records.as_ref().map_or(case.judge.clone(), |records| {
-        judge(records, &entries, &patches)
-    });
+    let judge = match (case.form, &case.records) {
+        (_, None) => case.judge.clone(),
+        (Form::Deposit, Some(records)) => judge(records, &entries, &patches),
+        (Form::File, Some(records)) => judge_file(records, &entries, &patches),
+    };
     Case {
         list: listed(&entries, &patches),
         entries,
@@ -260,11 +316,11 @@ fn of_list(case: &Case, entries: Vec<u64>, patches: Vec<u8>) -> Case {
     }
 }
 
-fn of_bytes(case: &Case, deposit: Vec<u8>) -> Case {
-    match read(&deposit) {
+fn of_bytes(case: &Case, input: Vec<u8>) -> Case {
+    match read(&input) {
         Ok(records) => of_records(case, records),
         Err(number) => Case {
-            deposit,
+            input,
             records: None,
             judge: known(number, 0),
             ..case.clone()
@@ -311,11 +367,11 @@ mod tests {
         assert_eq!(case.list, listed(&case.entries, &case.patches));
         match &case.records {
             Some(records) => {
-                assert_eq!(case.deposit, lay_out(records));
+                assert_eq!(case.input, lay_out(records));
                 assert_eq!(case.judge, judge(records, &case.entries, &case.patches));
             }
             None => assert_eq!(
-                read(&case.deposit).map_err(|n| known(n, 0)),
+                read(&case.input).map_err(|n| known(n, 0)),
                 Err(case.judge.clone())
             ),
         }
@@ -366,7 +422,7 @@ mod tests {
                 ),
                 (0, 1, 0, false)
             );
-            assert_eq!(case.deposit, lay_out(records));
+            assert_eq!(case.input, lay_out(records));
         }
     }
 
@@ -402,22 +458,22 @@ mod tests {
         for case in shrunk(5, |case| {
             case.records.is_none() && case.judge == known(2, 0)
         }) {
-            assert!(case.deposit.len() <= 2 * BLOCK);
+            assert!(case.input.len() <= 2 * BLOCK);
             assert!(
-                case.deposit.iter().filter(|&&b| b != 0).count() <= 6,
+                case.input.iter().filter(|&&b| b != 0).count() <= 6,
                 "{:?}",
-                case.deposit
+                case.input
             );
-            assert_eq!(read(&case.deposit), Err(2));
+            assert_eq!(read(&case.input), Err(2));
         }
         for case in shrunk(6, |case| case.judge == known(1, 0)) {
-            assert!(case.deposit.is_empty());
+            assert!(case.input.is_empty());
         }
         for case in shrunk(7, |case| {
-            case.records.is_none() || case.deposit.len() == BLOCK
+            case.records.is_none() || case.input.len() == BLOCK
         }) {
             assert_eq!(
-                read(&case.deposit)
+                read(&case.input)
                     .map(|records| records.sections.len())
                     .unwrap_or(0),
                 0
@@ -437,14 +493,15 @@ mod tests {
             calls += 1;
             false
         });
-        assert_eq!((calls, same.deposit), (TRIES, case.deposit));
+        assert_eq!((calls, same.input), (TRIES, case.input));
     }
 
     fn empty() -> Case {
         let judge = Judge::None;
         Case {
             aim: "",
-            deposit: vec![],
+            form: Form::Deposit,
+            input: vec![],
             records: None,
             entries: vec![],
             patches: vec![],
@@ -462,13 +519,14 @@ mod tests {
         stream.resize(300, 0);
         stream.push(1);
         let case = Case {
-            deposit: seal(&stream),
+            form: Form::Deposit,
+            input: seal(&stream),
             judge: known(2, 0),
             ..empty()
         };
         let one_section =
-            |case: &Case| case.deposit.get(4) == Some(&1) && read(&case.deposit) != Err(1);
+            |case: &Case| case.input.get(4) == Some(&1) && read(&case.input) != Err(1);
         let out = to_the_end(case, one_section);
-        assert_eq!(out.deposit.iter().filter(|&&b| b != 0).count(), 2);
+        assert_eq!(out.input.iter().filter(|&&b| b != 0).count(), 2);
     }
 }
