@@ -1,13 +1,14 @@
-//! Real objects: the crate on the file, the load call on the deposit that `./deposit` makes of it.
+//! Real objects: the crate on the file; the load calls on the file, on a copy whose `.BTF` has another name, and on the deposit that `./deposit` makes.
 use std::collections::BTreeMap;
 use std::fmt::Display;
 use std::fs;
 use std::path::{Path, PathBuf};
 
-use crate::answer::{Answer, Room};
+use crate::answer::{Answer, Lent, Room};
 use crate::case::{Case, Form, Judge, Refusal};
+use crate::generate;
 use crate::theirs::{Given, Theirs};
-use crate::{compare, ours, theirs};
+use crate::{compare, domain, files, hold, ours, theirs};
 
 /// Room for what such an object takes.
 pub const ROOM: Room = Room {
@@ -26,6 +27,44 @@ enum Held {
     Differs(String),
 }
 
+/// How many objects came to what.
+#[derive(Default)]
+struct Counts {
+    accepted: u32,
+    refused: BTreeMap<u32, u32>,
+    outside: BTreeMap<&'static str, u32>,
+    differ: u32,
+}
+
+impl Counts {
+    fn add(&mut self, name: &str, held: Held) {
+        match held {
+            Held::Accepted => self.accepted += 1,
+            Held::Refused(r) => *self.refused.entry(r.number).or_default() += 1,
+            Held::Outside(why) => *self.outside.entry(why).or_default() += 1,
+            Held::Differs(text) => {
+                self.differ += 1;
+                println!("{name}: {text}");
+            }
+        }
+    }
+
+    fn print(&self, what: &str) {
+        println!(
+            "{what}, refused on both sides, by number:{}",
+            listed(&self.refused)
+        );
+        println!("{what}, outside the comparison:{}", listed(&self.outside));
+        let refused: u32 = self.refused.values().sum();
+        let outside: u32 = self.outside.values().sum();
+        let all = self.accepted + refused + outside + self.differ;
+        println!(
+            "{all} {what}: {} accepted and {refused} refused on both sides, {outside} outside, {} differ",
+            self.accepted, self.differ
+        );
+    }
+}
+
 /// Whether all agree.
 pub fn run(folder: &Path) -> bool {
     let files = match objects(folder) {
@@ -35,33 +74,28 @@ pub fn run(folder: &Path) -> bool {
             return false;
         }
     };
-    let mut accepted = 0;
-    let mut refused: BTreeMap<u32, u32> = BTreeMap::new();
-    let mut outside: BTreeMap<&str, u32> = BTreeMap::new();
-    let mut differ = 0;
+    let mut deposits = Counts::default();
+    let mut as_they_are = Counts::default();
+    let mut renamed = Counts::default();
     for file in &files {
-        match beside(file).unwrap_or_else(Held::Differs) {
-            Held::Accepted => accepted += 1,
-            Held::Refused(r) => *refused.entry(r.number).or_default() += 1,
-            Held::Outside(why) => *outside.entry(why).or_default() += 1,
-            Held::Differs(text) => {
-                differ += 1;
-                println!("{}: {text}", name(file));
+        let name = name(file);
+        match inputs(file) {
+            Err(text) => as_they_are.add(&name, Held::Differs(text)),
+            Ok((object, deposit)) => {
+                deposits.add(&name, by_deposit(&deposit, &object));
+                if let Some(copy) = files::without_btf(&object) {
+                    renamed.add(&name, as_file(copy));
+                }
+                as_they_are.add(&name, beside(deposit, object));
             }
         }
     }
-    println!(
-        "objects refused on both sides, by number:{}",
-        listed(&refused)
-    );
-    println!("objects outside the comparison:{}", listed(&outside));
-    let both: u32 = refused.values().sum();
-    println!(
-        "{} objects: {accepted} accepted and {both} refused on both sides, {} outside, {differ} differ",
-        files.len(),
-        outside.values().sum::<u32>()
-    );
-    differ == 0
+    deposits.print("deposits of objects");
+    as_they_are.print("objects as files");
+    renamed.print("objects as files with .BTF renamed");
+    [deposits, as_they_are, renamed]
+        .iter()
+        .all(|c| c.differ == 0)
 }
 
 fn listed<K: Display>(counts: &BTreeMap<K, u32>) -> String {
@@ -100,30 +134,36 @@ pub fn read(folders: &[&str]) -> Option<Vec<Vec<u8>>> {
     }
 }
 
-fn beside(file: &Path) -> Result<Held, String> {
+/// An object and its deposit.
+fn inputs(file: &Path) -> Result<(Vec<u8>, Vec<u8>), String> {
     let read = |f: &Path| fs::read(f).map_err(|e| format!("{}: {e}", name(f)));
-    let object = read(file)?;
-    let case = Case {
+    Ok((read(file)?, read(&file.with_extension("deposit"))?))
+}
+
+fn case(form: Form, input: Vec<u8>, rewrite: bool) -> Case {
+    Case {
         aim: "a real object",
-        form: Form::Deposit,
-        input: read(&file.with_extension("deposit"))?,
+        form,
+        input,
         records: None,
         entries: Vec::new(),
         patches: Vec::new(),
         list: Some(Vec::new()),
-        rewrite: false,
+        rewrite,
         judge: Judge::None,
-    };
-    let plain = held(&case, &object);
-    match held(
-        &Case {
-            rewrite: true,
-            ..case
-        },
-        &object,
-    ) {
-        Held::Differs(text) => Err(format!("with rewriting: {text}")),
-        _ => Ok(plain),
+    }
+}
+
+fn by_deposit(deposit: &[u8], object: &[u8]) -> Held {
+    let held = |rewrite| held(&case(Form::Deposit, deposit.to_vec(), rewrite), object);
+    with_rewriting(held)
+}
+
+/// What an object comes to without rewriting, if it agrees with it too.
+fn with_rewriting(held: impl Fn(bool) -> Held) -> Held {
+    match held(true) {
+        Held::Differs(text) => Held::Differs(format!("with rewriting: {text}")),
+        _ => held(false),
     }
 }
 
@@ -147,4 +187,44 @@ fn held(case: &Case, object: &[u8]) -> Held {
 
 fn undefined_pinning(theirs: &Theirs) -> bool {
     matches!(theirs, Theirs::Accepted(c) if c.maps.iter().any(|m| m.words[6] > 1))
+}
+
+/// The file, which gives what its deposit gives.
+fn beside(deposit: Vec<u8>, object: Vec<u8>) -> Held {
+    let load = |form, input: &[u8]| -> (Answer, Lent) {
+        ours::load(&case(form, input.to_vec(), false), &ROOM, 0x5A)
+    };
+    if load(Form::File, &object) != load(Form::Deposit, &deposit) {
+        return Held::Differs("its deposit gives something else".into());
+    }
+    as_file(object)
+}
+
+fn as_file(object: Vec<u8>) -> Held {
+    with_rewriting(|rewrite| {
+        let lent = generate::Lent::default();
+        file_held(&files::of_file(
+            "a real object",
+            object.clone(),
+            lent,
+            rewrite,
+        ))
+    })
+}
+
+fn file_held(case: &Case) -> Held {
+    let run = match hold::hold(case) {
+        Ok(run) => run,
+        Err(text) => return Held::Differs(text),
+    };
+    match (run.given, run.answer, &case.records) {
+        (Some(files::AS_IT_IS), Answer::Accepted(_), _) => Held::Accepted,
+        (Some(files::AS_IT_IS), Answer::Refused(r), _) => Held::Refused(r),
+        (Some(why), ..) => Held::Outside(why),
+        (None, _, None) => Held::Outside("goes back with 25 or 26"),
+        (None, _, Some(records)) => {
+            let why = domain::comparable_file(records, &[]).err();
+            Held::Outside(why.unwrap_or("nobody judges"))
+        }
+    }
 }

@@ -1,4 +1,6 @@
 //! Changes to a file's numbers, by their places.
+use crate::rules::piece;
+
 use super::read::{File, Header, SECTION_HEADER};
 
 /// Where a number stands in its header, and its bytes.
@@ -105,6 +107,14 @@ impl Edit {
         self.get(0, SHNUM)
     }
 
+    /// What a section is called; nothing where that stands in no string table.
+    pub fn name(&self, x: &Header) -> &[u8] {
+        let strings = self.names().map(|y| y.data()).unwrap_or_default();
+        let rest = piece(&self.bytes, strings).get(x.name as usize..);
+        rest.and_then(|rest| rest.split(|&b| b == 0).next())
+            .unwrap_or_default()
+    }
+
     /// Copies the section headers to the file's end, at a multiple of 8, so that nothing else reaches as far.
     pub fn headers_last(&mut self) {
         let length = SECTION_HEADER as usize * self.count() as usize;
@@ -118,4 +128,18 @@ impl Edit {
         self.set(0, SHOFF, at as u64);
         *self = Edit::of(std::mem::take(&mut self.bytes));
     }
+}
+
+/// A copy in which the section `.BTF` lacks the first two bytes of its name, where there is one: neither the call nor the crate knows it then.
+pub fn without_btf(file: &[u8]) -> Option<Vec<u8>> {
+    let mut edit = Edit::of(file.to_vec());
+    let sections = edit.sections.iter();
+    let named: Vec<Header> = sections
+        .filter(|x| edit.name(x) == b".BTF")
+        .copied()
+        .collect();
+    for x in &named {
+        edit.set(x.at, NAME, u64::from(x.name) + 2);
+    }
+    (!named.is_empty()).then_some(edit.bytes)
 }

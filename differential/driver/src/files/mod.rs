@@ -24,7 +24,8 @@ use crate::rng::Rng;
 use damages::{CLAUSES, DAMAGES};
 use edit::Edit;
 
-pub use direct::given;
+pub use direct::{AS_IT_IS, given};
+pub use edit::without_btf;
 pub use limits::limits;
 pub use reach::features;
 pub use told::told;

@@ -30,7 +30,8 @@ pub fn told(bytes: &[u8]) -> String {
 }
 
 fn section(out: &mut String, file: &File, edit: &Edit, x: &Header) {
-    let name = name(edit, x);
+    let name = edit.name(x);
+    let name = String::from_utf8_lossy(&name[..name.len().min(MOST)]);
     let Header {
         index,
         kind,
@@ -52,14 +53,6 @@ fn section(out: &mut String, file: &File, edit: &Edit, x: &Header) {
     } else if file.relocations().any(|y| y.index == *index) {
         entries(out, edit, x, "relocation", x.entry_size());
     }
-}
-
-fn name(edit: &Edit, x: &Header) -> String {
-    let strings = edit.names().map(|y| y.data()).unwrap_or_default();
-    let strings = piece(&edit.bytes, strings);
-    let rest = strings.get(x.name as usize..).unwrap_or_default();
-    let name = rest.split(|&b| b == 0).next().unwrap_or_default();
-    String::from_utf8_lossy(&name[..name.len().min(MOST)]).into_owned()
 }
 
 fn entries(out: &mut String, edit: &Edit, x: &Header, what: &str, width: u64) {
