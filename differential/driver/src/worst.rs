@@ -14,7 +14,7 @@ use crate::{deposit, elf, ours, patch_list};
 /// No deposit may take longer.
 const LIMIT: Duration = Duration::from_secs(5);
 /// What is lent for a case: every table but that of relocations whole, and less than many cases have bytes, which is then 24.
-const ROOM: Room = Room {
+pub const ROOM: Room = Room {
     sections: 4 * MOST_SECTIONS,
     programs: 7 * MOST_RECORDS,
     functions: MOST_RECORDS,
@@ -31,10 +31,10 @@ const CRATES_SHARING: u32 = 64;
 /// Where the largest data leaves room for records and names.
 const MUCH_DATA: usize = 15 << 20;
 
-/// Prints a row for each case: its deposit's bytes, entries of its patch list, the answer's number, what each takes, and how many times longer the
+/// Prints a row for each case: its bytes, entries of its patch list, the answer's number, what each takes, and how many times longer the
 /// crate takes. So many sections share relocations.
 pub fn run(sharing: u32) {
-    println!("worst case, deposit bytes, patch entries, answer, load, Object::parse, ratio");
+    println!("worst case, bytes, patch entries, answer, load, Object::parse, ratio");
     long_names();
     shared_relocations(sharing);
     one_section();
@@ -148,10 +148,15 @@ fn ours_alone(name: &str, records: &Records, list: List) -> Duration {
 fn row(name: &str, records: &Records, list: List, theirs: Option<Duration>) -> Duration {
     let entries = list.0;
     let case = list.lent_to(case(Form::Deposit, deposit::lay_out(records)));
+    timed(name, entries, &case, theirs)
+}
+
+/// Times a case, and prints its row.
+pub fn timed(name: &str, entries: usize, case: &Case, theirs: Option<Duration>) -> Duration {
     let mut lent = ours::filled(&ROOM, 0);
     let mut number = 0;
     let ours = least(|| {
-        number = match black_box(ours::load_into(&case, &mut lent)) {
+        number = match black_box(ours::load_into(case, &mut lent)) {
             Answer::Accepted(_) => 0,
             Answer::Refused(r) => r.number,
         }
@@ -166,12 +171,12 @@ fn row(name: &str, records: &Records, list: List, theirs: Option<Duration>) -> D
 }
 
 /// A list of so many entries, all of one name and so many bytes of data, which they share.
-struct List<'a>(usize, &'a str, usize);
+pub struct List<'a>(pub usize, pub &'a str, pub usize);
 
-const NO_LIST: List = List(0, "", 0);
+pub const NO_LIST: List = List(0, "", 0);
 
 impl List<'_> {
-    fn lent_to(self, case: Case) -> Case {
+    pub fn lent_to(self, case: Case) -> Case {
         let List(count, name, length) = self;
         let (entries, patches) = patch_list::lend(&[Patch {
             name: name.into(),

@@ -14,6 +14,7 @@ mod reach;
 pub mod read;
 mod told;
 mod twists;
+pub mod worst;
 
 use crate::case::{Case, Form};
 use crate::domain::{judge_file, known};
