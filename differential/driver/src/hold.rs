@@ -1,7 +1,8 @@
 //! One case: the load call is run on it, held to its judge, and to what needs no judge.
 use crate::answer::{Answer, Lent, Room, Summary};
-use crate::case::{Case, Form, Judge, Refusal};
+use crate::case::{Case, Form, Judge, Records, Refusal};
 use crate::rules::MOST_BYTES;
+use crate::shrink::edits;
 use crate::theirs::{Given, Theirs};
 use crate::{compare, deposit, files, lay, ours, room, theirs};
 
@@ -137,18 +138,23 @@ fn same_without_room(case: &Case, refusal: &Refusal) -> Result<(), String> {
     })
 }
 
+/// The case with the deposit that states the same, for a file that states something.
+pub fn stated(case: &Case) -> Case {
+    let mut out = case.clone();
+    if let (Form::File, Some(records)) = (case.form, &case.records) {
+        let records = edits::compact(records).unwrap_or_else(|| records.clone());
+        (out.form, out.input) = (Form::Deposit, deposit::lay_out(&records));
+    }
+    out
+}
+
 /// A file's answer is that of the deposit which states the same, where one is short enough.
 fn same_as_deposit(case: &Case, answer: &Answer, lent: &Lent) -> Result<(), String> {
-    let records = match &case.records {
-        Some(r) if case.form == Form::File && deposit::length(r) <= MOST_BYTES => r,
-        _ => return Ok(()),
-    };
-    let stated = Case {
-        form: Form::Deposit,
-        input: deposit::lay_out(records),
-        ..case.clone()
-    };
-    let (other, held) = ours::load(&stated, &lent_for(case), 0x5A);
+    let states = |r: &Records| case.form == Form::File && deposit::length(r) <= MOST_BYTES;
+    if !case.records.as_ref().is_some_and(states) {
+        return Ok(());
+    }
+    let (other, held) = ours::load(&stated(case), &lent_for(case), 0x5A);
     ensure(other == *answer, || {
         format!("{answer:?}, and the deposit of what it states {other:?}")
     })?;

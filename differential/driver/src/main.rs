@@ -36,6 +36,7 @@ use std::path::Path;
 use std::process::ExitCode;
 
 use case::{Case, Judge};
+use rng::Rng;
 use runs::{Cases, numbers, report, run};
 
 const USAGE: &str = "driver random N SEED FOLDER: N cases drawn by SEED, those at the limits among them
@@ -43,6 +44,7 @@ driver files N SEED FOLDER [OBJECTS]: N ELF files drawn by SEED, some of them re
 driver fuzz N SEED FOLDER [OBJECTS]: N such files changed, with guards round everything lent
 driver record N SEED FOLDER: N cases with the crate's answers, as the program replay reads them, into FOLDER
 driver outside N SEED FOLDER: N cases that nobody judges with our answers, for tools/model_check.py, into FOLDER
+driver outside-files N SEED FOLDER: the same of files, each by the deposit that states the same
 driver objects FOLDER: each NAME.o in FOLDER beside its NAME.deposit
 driver bench FOLDER N: how long both take, on such objects, on made ones and in worst cases, N sections with the same relocations; built for release
 A difference is shrunk and saved in FOLDER, and the exit status is 1.";
@@ -74,24 +76,24 @@ fn main() -> ExitCode {
             Some(files::fuzz::run(n, seed, &real, Path::new(folder)))
         }
         ["record", n, seed, folder] => {
-            let folder = Path::new(folder);
-            Some(written(
-                n.parse().ok()?,
-                seed.parse().ok()?,
-                folder,
-                "crate",
-                by_crate,
-            ))
+            let of = Writing {
+                word: "crate",
+                draw: generate::case,
+                wanted: by_crate,
+            };
+            Some(of.write(n.parse().ok()?, seed.parse().ok()?, Path::new(folder)))
         }
-        ["outside", n, seed, folder] => {
-            let folder = Path::new(folder);
-            Some(written(
-                n.parse().ok()?,
-                seed.parse().ok()?,
-                folder,
-                "outside",
-                by_nobody,
-            ))
+        [word @ ("outside" | "outside-files"), n, seed, folder] => {
+            let of = Writing {
+                word: "outside",
+                draw: if word == "outside" {
+                    generate::case
+                } else {
+                    of_no_object
+                },
+                wanted: by_nobody,
+            };
+            Some(of.write(n.parse().ok()?, seed.parse().ok()?, Path::new(folder)))
         }
         ["bench", folder, n] => Some(bench::run(Path::new(folder), n.parse().ok()?)),
         ["objects", folder] => Some(objects::run(Path::new(folder))),
@@ -107,44 +109,55 @@ fn main() -> ExitCode {
     }
 }
 
-/// Case i of a seed, whatever ran before it.
-fn drawn(seed: u64, i: u64) -> Case {
-    generate::case(&mut numbers(seed, i))
+fn of_no_object(rng: &mut Rng) -> Case {
+    files::case(rng, &[])
 }
 
 /// Deposits above this length are not written out: the file stays small.
 const WRITTEN: usize = 1536;
 
-/// Writes out N cases of a judge, as the program replay reads them and with what it is to write; whether no difference was found.
-fn written(n: u64, seed: u64, folder: &Path, word: &str, wanted: fn(&Judge) -> bool) -> bool {
-    let (mut input, mut output) = (String::new(), String::new());
-    let mut cases = (0..).map(|i| (i, drawn(seed, i)));
-    let mut wanted = cases
-        .by_ref()
-        .filter(|(_, case)| wanted(&case.judge) && case.input.len() <= WRITTEN);
-    for (i, case) in wanted.by_ref().take(n as usize) {
-        match hold::hold(&case) {
-            Err(text) => {
-                let which = format!("case {i} of seed {seed}");
-                report(&which, case, &text, folder, &|case| hold::hold(case).err());
-                return false;
-            }
-            Ok(run) => {
-                let name = format!("{word}-{seed}-{i}");
-                let (room, answer, lent) = hold::recorded(&case, &run);
-                input += &record::line(&name, &case, &room);
-                output += &record::printed(&name, &answer, &lent);
+/// Cases that are written out.
+struct Writing {
+    /// Their names begin with it.
+    word: &'static str,
+    draw: fn(&mut Rng) -> Case,
+    wanted: fn(&Judge) -> bool,
+}
+
+impl Writing {
+    /// Writes out N cases, as the program replay reads them and with what it is to write; whether no difference was found. A file is written as the
+    /// deposit that states the same.
+    fn write(&self, n: u64, seed: u64, folder: &Path) -> bool {
+        let (mut input, mut output) = (String::new(), String::new());
+        let cases = (0..).map(|i| (i, (self.draw)(&mut numbers(seed, i))));
+        let stated = cases
+            .filter(|(_, case)| (self.wanted)(&case.judge))
+            .map(|(i, case)| (i, hold::stated(&case), case))
+            .filter(|(_, stated, _)| stated.input.len() <= WRITTEN);
+        for (i, stated, case) in stated.take(n as usize) {
+            match hold::hold(&case) {
+                Err(text) => {
+                    let which = format!("case {i} of seed {seed}");
+                    report(&which, case, &text, folder, &|case| hold::hold(case).err());
+                    return false;
+                }
+                Ok(run) => {
+                    let name = format!("{}-{seed}-{i}", self.word);
+                    let (room, answer, lent) = hold::recorded(&case, &run);
+                    input += &record::line(&name, &stated, &room);
+                    output += &record::printed(&name, &answer, &lent);
+                }
             }
         }
+        let written = fs::create_dir_all(folder)
+            .and_then(|()| fs::write(folder.join("stdin"), input))
+            .and_then(|()| fs::write(folder.join("stdout"), output));
+        match written {
+            Ok(()) => println!("{n} cases in {}", folder.display()),
+            Err(ref e) => println!("{}: {e}", folder.display()),
+        }
+        written.is_ok()
     }
-    let written = fs::create_dir_all(folder)
-        .and_then(|()| fs::write(folder.join("stdin"), input))
-        .and_then(|()| fs::write(folder.join("stdout"), output));
-    match written {
-        Ok(()) => println!("{n} cases in {}", folder.display()),
-        Err(ref e) => println!("{}: {e}", folder.display()),
-    }
-    written.is_ok()
 }
 
 fn by_crate(judge: &Judge) -> bool {

@@ -31,16 +31,19 @@ pub use limits::limits;
 pub use reach::features;
 pub use told::told;
 
-/// A file drawn at random, or one of these changed.
+/// A file drawn at random, or a real one; some of both are changed.
 pub fn case(rng: &mut Rng, real: &[Vec<u8>]) -> Case {
-    let (aim, draft, lent) = generate::drafted(rng);
+    let (aim, draft, mut lent) = generate::drafted(rng);
     let rewrite = rng.chance(1, 2);
     let (other, mut file) = base(rng, &draft, real, 10);
+    if let (REAL, Ok(records)) = (other, read::read(&file)) {
+        lent = generate::list(rng, &Draft::of(&records));
+    }
     let mut aim = [other, aim, lent.aim, "sound"]
         .into_iter()
         .find(|aim| !aim.is_empty())
         .unwrap_or_default();
-    if rng.chance(1, 4) || aim == REAL {
+    if rng.chance(1, if other == REAL { 2 } else { 4 }) {
         aim = change(rng, &mut file);
     }
     of_file(aim, file, lent, rewrite)

@@ -12,12 +12,13 @@ use super::read::{NOBITS, SECTION_HEADER, STRTAB, SYMBOL, SYMTAB};
 type Twist = fn(&mut Rng, &mut Edit);
 
 /// Each happens once in so many files.
-const TWISTS: [(usize, Twist); 14] = [
+const TWISTS: [(usize, Twist); 15] = [
     (8, ident),
     (6, free_fields),
     (30, one_program_field),
     (150, program_headers),
     (8, overlap),
+    (20, relocations_elsewhere),
     (10, address),
     (10, entry_0),
     (150, typed_entry_0),
@@ -71,6 +72,16 @@ fn overlap(rng: &mut Rng, edit: &mut Edit) {
     let x = **rng.pick(&sections);
     let room = edit.bytes.len().saturating_sub(x.size as usize);
     edit.set(x.at, OFFSET, rng.below(room + 1) as u64);
+}
+
+/// A relocation table in use reaches over other bytes of the file.
+fn relocations_elsewhere(rng: &mut Rng, edit: &mut Edit) {
+    if edit.relocations.is_empty() {
+        return;
+    }
+    let x = *rng.pick(&edit.relocations);
+    let room = edit.bytes.len().saturating_sub(x.size as usize);
+    edit.set(x.at, OFFSET, 8 * rng.below(room / 8 + 1) as u64);
 }
 
 fn address(rng: &mut Rng, edit: &mut Edit) {

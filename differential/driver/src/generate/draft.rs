@@ -2,6 +2,7 @@
 use crate::case::{Extent, Records, RelocationRecord, SectionRecord, SymbolRecord};
 use crate::deposit::{self, STREAM};
 use crate::rng::Rng;
+use crate::rules::piece;
 
 #[derive(Clone, Default)]
 pub struct Draft {
@@ -31,6 +32,35 @@ pub struct Symbol {
 }
 
 impl Draft {
+    /// What records say whose indexes have no gaps.
+    pub fn of(records: &Records) -> Draft {
+        let sections = records.sections.iter().map(|x| {
+            let first = x.relocations.at as usize;
+            let relocations = first..first + x.relocations.length as usize;
+            Section {
+                name: piece(&records.names, x.name).to_vec(),
+                mark: x.mark,
+                address: x.address,
+                size: x.size,
+                data: piece(&records.data, x.bytes).to_vec(),
+                relocations: records.relocations[relocations].to_vec(),
+            }
+        });
+        let symbols = records.symbols.iter().map(|y| Symbol {
+            name: piece(&records.names, y.name).to_vec(),
+            section: y.section,
+            address: y.address,
+            size: y.size,
+            kind: y.kind,
+            definition: y.definition,
+        });
+        Draft {
+            order: records.order,
+            sections: sections.collect(),
+            symbols: symbols.collect(),
+        }
+    }
+
     /// A further section, its size that of its data.
     pub fn section(&mut self, name: impl AsRef<[u8]>, data: Vec<u8>) -> &mut Section {
         self.sections.push(Section {
@@ -158,7 +188,7 @@ fn pack(rng: &mut Rng, table: &mut Vec<u8>, piece: &[u8]) -> Extent {
 #[cfg(test)]
 mod tests {
     use super::*;
-    use crate::rules::{broken, piece};
+    use crate::rules::broken;
 
     fn draft() -> Draft {
         let mut draft = Draft::default();
@@ -215,6 +245,12 @@ mod tests {
     fn records_say_what_the_draft_says() {
         says_the_draft(&draft().records());
         assert_eq!(draft().records().names, b"xdpdp");
+    }
+
+    #[test]
+    fn records_give_the_draft_again() {
+        let records = draft().records();
+        assert_eq!(Draft::of(&records).records(), records);
     }
 
     #[test]

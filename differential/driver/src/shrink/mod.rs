@@ -1,5 +1,5 @@
 //! Makes a failing case smaller as long as it still fails.
-mod edits;
+pub mod edits;
 mod file_edits;
 
 use std::ops::Range;
