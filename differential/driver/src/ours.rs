@@ -65,51 +65,38 @@ type Load = unsafe extern "C" fn(
     answer: *mut LoadAnswer,
 );
 
+macro_rules! declare {
+    ($($load:ident)*) => {
+        unsafe extern "C" {
+            $(fn $load(
+                input: *const u8,
+                input_length: usize,
+                entries: *const u64,
+                entries_length: usize,
+                patches: *const u8,
+                patches_length: usize,
+                rewrite: bool,
+                sections: *mut u64,
+                sections_length: usize,
+                programs: *mut u64,
+                programs_length: usize,
+                functions: *mut Function,
+                functions_length: usize,
+                maps: *mut u64,
+                maps_length: usize,
+                relocations: *mut u64,
+                relocations_length: usize,
+                bytes: *mut u8,
+                bytes_length: usize,
+                answer: *mut LoadAnswer,
+            );)*
+        }
+    };
+}
+
+declare!(buncoyew_load buncoyew_load_elf);
+
 unsafe extern "C" {
-    fn buncoyew_load(
-        deposit: *const u8,
-        deposit_length: usize,
-        entries: *const u64,
-        entries_length: usize,
-        patches: *const u8,
-        patches_length: usize,
-        rewrite: bool,
-        sections: *mut u64,
-        sections_length: usize,
-        programs: *mut u64,
-        programs_length: usize,
-        functions: *mut Function,
-        functions_length: usize,
-        maps: *mut u64,
-        maps_length: usize,
-        relocations: *mut u64,
-        relocations_length: usize,
-        bytes: *mut u8,
-        bytes_length: usize,
-        answer: *mut LoadAnswer,
-    );
-    fn buncoyew_load_elf(
-        file: *const u8,
-        file_length: usize,
-        entries: *const u64,
-        entries_length: usize,
-        patches: *const u8,
-        patches_length: usize,
-        rewrite: bool,
-        sections: *mut u64,
-        sections_length: usize,
-        programs: *mut u64,
-        programs_length: usize,
-        functions: *mut Function,
-        functions_length: usize,
-        maps: *mut u64,
-        maps_length: usize,
-        relocations: *mut u64,
-        relocations_length: usize,
-        bytes: *mut u8,
-        bytes_length: usize,
-        answer: *mut LoadAnswer,
-    );
     fn buncoyew_find(
         functions: *const Function,
         functions_length: usize,

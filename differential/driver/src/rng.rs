@@ -27,6 +27,11 @@ impl Rng {
         self.below(b) < a
     }
 
+    /// An element, where there is one.
+    pub fn any<T: Copy>(&mut self, of: &[T]) -> Option<T> {
+        (!of.is_empty()).then(|| *self.pick(of))
+    }
+
     pub fn pick<'a, T>(&mut self, of: &'a [T]) -> &'a T {
         &of[self.below(of.len())]
     }
@@ -72,5 +77,6 @@ mod tests {
     fn pick_gives_an_element() {
         let mut rng = Rng::new(3);
         assert_eq!(*rng.pick(&[5]), 5);
+        assert_eq!((rng.any(&[5]), rng.any::<u8>(&[])), (Some(5), None));
     }
 }

@@ -237,6 +237,8 @@ fn symbols(rng: &mut Rng, draft: &Draft, sections: &Sections) -> Vec<Symbol> {
 
 fn symbol_type(rng: &mut Rng, kind: u8) -> u8 {
     match kind {
+        // a function or a datum no longer, though 5, 6 and 10 look like one
+        1 | 2 if rng.chance(1, 80) => *rng.pick(&[0, 3, 4, 5, 6, 10, 10, 13]),
         1 => 2,
         2 => 1,
         _ if rng.chance(1, 40) => 5 + rng.below(11) as u8,

@@ -63,12 +63,17 @@ impl Table {
         let mut out = Table {
             bytes: vec![0; rng.below(3)],
             runs: Vec::new(),
-            faults: usize::from(rng.chance(1, 3)),
+            faults: usize::from(rng.chance(1, 2)),
         };
         let word = *rng.pick(&["a", "ab", ".data", "maps", "tp/"]);
         for _ in 0..1 + rng.below(5) {
-            let length = *rng.pick(&LENGTHS) + rng.below(3);
             let at = out.bytes.len();
+            let length = if rng.chance(1, 2) {
+                *rng.pick(&LENGTHS) + rng.below(3)
+            } else {
+                // it ends round a multiple of 1,024 of the table
+                1024 * (1 + rng.below(4)) - at % 1024 + rng.below(3) - 1
+            };
             out.bytes.extend(word.bytes().cycle().take(length));
             let end = *rng.pick(&[0, 0, 0, 0, 128, 255]);
             out.bytes.push(end);

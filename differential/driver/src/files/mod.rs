@@ -1,4 +1,5 @@
 //! ELF files: paper 1 of document 02.
+mod clauses;
 mod damages;
 #[cfg(test)]
 mod differences;
@@ -22,7 +23,8 @@ use crate::generate::{self, Draft, Lent};
 use crate::patch_list::listed;
 use crate::rng::Rng;
 
-use damages::{CLAUSES, DAMAGES};
+use clauses::CLAUSES;
+use damages::DAMAGES;
 use edit::Edit;
 
 pub use direct::{AS_IT_IS, given};
@@ -56,7 +58,7 @@ fn base(rng: &mut Rng, draft: &Draft, real: &[Vec<u8>], of: usize) -> (&'static 
     if !real.is_empty() && rng.chance(1, of) {
         return (REAL, rng.pick(real).clone());
     }
-    if rng.chance(1, 200) {
+    if rng.chance(1, 120) {
         return ("long names", long::file(rng));
     }
     let drawn = draw::file(rng, draft);

@@ -64,29 +64,24 @@ fn program_headers(rng: &mut Rng, edit: &mut Edit) {
 /// A section that is no table reaches elsewhere in the file: over others, over tables, over headers.
 fn overlap(rng: &mut Rng, edit: &mut Edit) {
     let plain = |kind: u32| ![SYMTAB, STRTAB, NOBITS, 4, 9].contains(&kind);
-    let sections = edit.sections.iter();
+    let sections = edit.sections.iter().copied();
     let sections: Vec<_> = sections.filter(|x| plain(x.kind) && x.size > 0).collect();
-    if sections.is_empty() {
-        return;
+    if let Some(x) = rng.any(&sections) {
+        let room = edit.bytes.len().saturating_sub(x.size as usize);
+        edit.set(x.at, OFFSET, rng.below(room + 1) as u64);
     }
-    let x = **rng.pick(&sections);
-    let room = edit.bytes.len().saturating_sub(x.size as usize);
-    edit.set(x.at, OFFSET, rng.below(room + 1) as u64);
 }
 
 /// A relocation table in use reaches over other bytes of the file.
 fn relocations_elsewhere(rng: &mut Rng, edit: &mut Edit) {
-    if edit.relocations.is_empty() {
-        return;
+    if let Some(x) = rng.any(&edit.relocations) {
+        let room = edit.bytes.len().saturating_sub(x.size as usize);
+        edit.set(x.at, OFFSET, 8 * rng.below(room / 8 + 1) as u64);
     }
-    let x = *rng.pick(&edit.relocations);
-    let room = edit.bytes.len().saturating_sub(x.size as usize);
-    edit.set(x.at, OFFSET, 8 * rng.below(room / 8 + 1) as u64);
 }
 
 fn address(rng: &mut Rng, edit: &mut Edit) {
-    if !edit.sections.is_empty() {
-        let x = *rng.pick(&edit.sections);
+    if let Some(x) = rng.any(&edit.sections) {
         edit.set(x.at, ADDRESS, wild(rng));
     }
 }
@@ -107,9 +102,8 @@ fn typed_entry_0(rng: &mut Rng, edit: &mut Edit) {
 
 /// Entry 0 bears another's name.
 fn named_entry_0(rng: &mut Rng, edit: &mut Edit) {
-    if !edit.sections.is_empty() {
-        let name = rng.pick(&edit.sections).name;
-        edit.set(edit.headers_at, NAME, name.into());
+    if let Some(x) = rng.any(&edit.sections) {
+        edit.set(edit.headers_at, NAME, x.name.into());
     }
 }
 
