@@ -226,9 +226,8 @@ class Records(unittest.TestCase):
         own = o.relocations(xdp, [(0, 1, 10)])
         o.symbol("pass", xdp)
         file = o.build()
-        with self.assertRaises(model.Refused) as refused:
-            read_back(file)
-        self.assertEqual(refused.exception.answer[1], 3)
+        answer, _ = model.load_object(read_back(file), [], b"", False, dict.fromkeys(model.TABLES, 0))
+        self.assertEqual(answer[1], 3)
         found = read_back(file, btf=False)
         self.assertEqual([x.index for x in found.sections], [STRINGS, SYMBOLS, xdp, near, own])
         self.assertEqual([r for x in found.sections for r in x.relocations], [(0, 1, 32)])

@@ -2,8 +2,8 @@
 
 load(deposit, entries, patches, rewrite, room) gives the answer and what each lent element holds at the end. `entries` is the patch list as it is
 lent, numbers over the bytes `patches`; `room` has the six lent lengths, that of the function table in numbers too, seven a row.
-load_object is the load from 3 on, of an object. An answer is ('accepted', byte order, version or None for any, licence length, and the counts of sections, programs, functions, maps, relocations,
-bytes) or ('refused', number, section, symbol, entry)."""
+load_object is the load from 3 on, of an object. An answer is ('accepted', byte order, version or None for any, licence length, and the counts of
+sections, programs, functions, maps, relocations, bytes) or ('refused', number, section, symbol, entry)."""
 import struct
 from collections import namedtuple
 
