@@ -1,39 +1,16 @@
 -- Tests that hold of a whole list, at one of its elements.
-use mathlib.Core.Path.{_≡_, refl, sym, ap, _∙_}
-use mathlib.Core.Bool.{Bool, true, false, cond, _&&_, _||_, not}
-use mathlib.Core.List.{List, [], _∷_, _++_}
+use mathlib.Core.Path.{_≡_, refl, sym, _∙_}
+use mathlib.Core.Bool.{Bool, true, false, cond, _||_, not}
+use mathlib.Core.List.{List, [], _∷_}
 use mathlib.Core.Option.{none, some}
-use Prim.Native.Nat.{ℕ, zero, suc, _<_}
-use native.Mathlib.Nat.{not-suc-le-zero, le-of-suc-le-suc}
-use native.Mathlib.Omega.{arith}
-use lib.ListN.{length, getD}
-use Rattle.lists.specs.Tab.{tab, length-tab, getD-tab}
+use Prim.Native.Nat.{ℕ, _<_}
+use Rattle.lists.specs.Tab.{tab}
 use Rattle.lists.specs.Tests.{not-some, both-true}
 use Rattle.model.specs.Bytes.{push, keep, orElse, firstIn, find}
 use Rattle.model.specs.Deposit.{all}
+use Rattle.elf_laws.specs.All.{all-of-kept, all-tab-at}
 
 module _ {A : Type 0} (ok : A → Bool) where
-  passed-nth : (l : List A) (k : ℕ) (d : A) → all ok l ≡ true → k < length l → ok (getD l k d) ≡ true
-  unfolding all
-  passed-nth [] k d e h = absurd (not-suc-le-zero h)
-  passed-nth (x ∷ l) zero d e h = both-true (ok x) (all ok l) e .0
-  passed-nth (x ∷ l) (suc k) d e h = passed-nth l k d (both-true (ok x) (all ok l) e .1) (le-of-suc-le-suc h)
-
-  -- number i of a list by number
-  pub passed-tab : (g : ℕ → A) (n i : ℕ) → all ok (tab g n) ≡ true → i < n → ok (g i) ≡ true
-  passed-tab g n i e h =
-      let l : i < length (tab g n) = rw length-tab h in
-      ap ok (sym (getD-tab g n i (g i) h)) ∙ passed-nth (tab g n) i (g i) e l
-
-  pub tab-passed : (g : ℕ → A) (n : ℕ) → ((i : ℕ) → i < n → ok (g i) ≡ true) → all ok (tab g n) ≡ true
-  unfolding all tab
-  tab-passed g zero h = refl
-  tab-passed g (suc n) h = snoc (tab g n) (tab-passed g n (λ i l. h i (omega arith))) (h n (omega arith))
-    where
-      snoc : (l : List A) → all ok l ≡ true → ok (g n) ≡ true → all ok (l ++ (g n ∷ [])) ≡ true
-      snoc [] a e = rw e
-      snoc (x ∷ l) a e = let (h, t) = both-true (ok x) (all ok l) a in rw h (snoc l t e)
-
   -- a weaker test
   pub passed-weaker : (p : A → Bool) → ((x : A) → ok x ≡ true → p x ≡ true) → (l : List A) → all ok l ≡ true → all p l ≡ true
   unfolding all
@@ -61,19 +38,9 @@ module _ {A : Type 0} (ok : A → Bool) where
       go true h r = rw h r
       go false h r = r
 
-unless-kept : {A : Type 0} (ok p : A → Bool) (l : List A) → all ok (keep p l) ≡ true → all (λ x. not (p x) || ok x) l ≡ true
-unfolding all keep
-unless-kept ok p [] a = refl
-unless-kept ok p (x ∷ l) a = go (p x) a (unless-kept ok p l)
-  where
-    go : (b : Bool) → all ok (push b x (keep p l)) ≡ true → (all ok (keep p l) ≡ true → all (λ x. not (p x) || ok x) l ≡ true)
-        → ((not b || ok x) && all (λ x. not (p x) || ok x) l) ≡ true
-    go true a r = let (h, t) = both-true (ok x) (all ok (keep p l)) a in rw h (r t)
-    go false a r = r a
-
 -- number i of a list by number, which another test keeps
 pub kept-tab : {A : Type 0} (ok p : A → Bool) (g : ℕ → A) (n i : ℕ) → all ok (keep p (tab g n)) ≡ true → i < n → p (g i) ≡ true → ok (g i) ≡ true
-kept-tab ok p g n i a l e = rw e at (passed-tab (λ x. not (p x) || ok x) g n i (unless-kept ok p (tab g n) a) l)
+kept-tab ok p g n i a l e = rw e at (all-tab-at g (λ x. not (p x) || ok x) n i l (sym (all-of-kept p ok (tab g n)) ∙ a))
 
 -- what is kept passed the test
 pub kept-passed : {A : Type 0} (p : A → Bool) (l : List A) → all p (keep p l) ≡ true

@@ -13,11 +13,12 @@ use Rattle.model.specs.Bytes.{keep, firstIn, find, maybe, part, inside}
 use Rattle.model.specs.Deposit.{mostBytes, all}
 use Rattle.model.specs.Elf.{numberedRecords, Header, headerOf, isType, entryCount, wholeEntries, sectionNumbered, File, fileSections, fileOf, fileData, stringsOf}
 use Rattle.model.specs.ElfRefusals.{headerOk, linksStrings, symbolTableOk, relocTableOk, entriesOf, limitsOk, rulesOk}
+use Rattle.elf_laws.specs.All.{all-tab-at}
 use Rattle.elf_laws.specs.Rules.{Ruled, ruled}
 use Rattle.elf_header.specs.Headers.{headerIn, fileHeaderOf, headersOf, headersIn, presentSections, sections-by-number}
 use Rattle.elf_header.specs.Used.{usedBy, usedIn}
 use Rattle.elf_layout.specs.Layout.{tablesOk, stringsStart, stringsAt, stringsEnd, tableSymbols, symbolsStart, tableNumber, elfView, layoutOf}
-use Rattle.elf_object.specs.Found.{passed-tab, passed-found}
+use Rattle.elf_object.specs.Found.{passed-found}
 
 -- ---- the rules
 
@@ -233,7 +234,7 @@ module _ (f : List ℕ) (r : TablesRuled f (fileOf f)) where
 
   -- each header passes
   pub header-passes : (i : ℕ) → i < headersIn f .sections → headerOk (length f) (headerIn f (headersIn f) i) ≡ true
-  header-passes i l = passed-tab (headerOk (length f)) (headerIn f (headersIn f)) (headersIn f .sections) i (rw sections-by-number at (r .sections)) l
+  header-passes i l = all-tab-at (headerIn f (headersIn f)) (headerOk (length f)) (headersIn f .sections) i l (rw sections-by-number at (r .sections))
 
   -- the symbol table, where there is one
   pub symbol-table : (t : Header) → fileOf f .symbols ≡ some t → (t .kind ≡ 2) × (headerOk (length f) t ≡ true)

@@ -15,10 +15,10 @@ use Rattle.model.specs.Bytes.{maybe, part}
 use Rattle.model.specs.Deposit.{all}
 use Rattle.model.specs.Elf.{field, Header, headerOf, wholeEntries, File, fileOf, stringsOf}
 use Rattle.model.specs.ElfRefusals.{linksStrings, stringOk, sectionNamesOk, symbolTableOk}
+use Rattle.elf_laws.specs.All.{all-tab-at}
 use Rattle.elf_laws.specs.Places.{records-tab}
 use Rattle.elf_header.specs.Headers.{headerIn, fileHeaderOf, headersOf, headersIn, sections-by-number}
 use Rattle.elf_layout.specs.Layout.{tableSymbols, symbolsStart, elfView, layoutOf}
-use Rattle.elf_object.specs.Found.{passed-tab}
 use Rattle.elf_object.specs.Inside.{TablesRuled, sectionStrings, symbolStrings, section-strings, symbol-strings}
 use Rattle.elf_object.specs.Ranges.{field-start}
 use Rattle.elf_object.specs.Indexed.{sectionNameOffset, symbolNameOffset}
@@ -81,12 +81,12 @@ symbol-names f r = go (fileOf f .symbols) (r .symbols)
 pub section-name-passes : (f : List ℕ) → sectionNamesOk f (fileOf f) ≡ true → (i : ℕ) → i < headersIn f .sections
     → stringOk (drop (sectionNameOffset f i) (sectionStrings f)) ≡ true
 section-name-passes f ok i l =
-    passed-tab (namePasses (sectionStrings f)) (sectionNameOffset f) (headersIn f .sections) i (sym (section-names f) ∙ ok) l
+    all-tab-at (sectionNameOffset f) (namePasses (sectionStrings f)) (headersIn f .sections) i l (sym (section-names f) ∙ ok)
 
 pub symbol-name-passes : (f : List ℕ) → TablesRuled f (fileOf f) → maybe (fileOf f .symbols) true (symbolTableOk f (fileOf f)) ≡ true
     → (j : ℕ) → j < elfView f .symbols → stringOk (drop (symbolNameOffset f j) (symbolStrings f)) ≡ true
 symbol-name-passes f r ok j l =
-    passed-tab (namePasses (symbolStrings f)) (symbolNameOffset f) (elfView f .symbols) j (sym (symbol-names f r) ∙ ok) l
+    all-tab-at (symbolNameOffset f) (namePasses (symbolStrings f)) (elfView f .symbols) j l (sym (symbol-names f r) ∙ ok)
 
 -- ---- where they lie
 

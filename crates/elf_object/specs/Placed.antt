@@ -17,12 +17,13 @@ use Rattle.model.specs.Bytes.{keep, each, maybe}
 use Rattle.model.specs.Deposit.{all}
 use Rattle.model.specs.Elf.{Header, headerOf, isType, isRelocations, entrySize, entryCount, sectionNumbered, fileOf}
 use Rattle.model.specs.ElfRefusals.{headerOk, relocTableOk, entriesOf}
+use Rattle.elf_laws.specs.All.{all-tab}
 use Rattle.elf_header.specs.declared.Headers.{Headers}
 use Rattle.elf_header.specs.Headers.{headerIn, headersIn, sections-by-number}
 use Rattle.elf_header.specs.Used.{usedBy, usedIn, tablePlaces, placesFor}
 use Rattle.elf_layout.specs.Layout.{tableNumber}
 use Rattle.elf_relocations.specs.Placing.{Near, Tables, placed-all}
-use Rattle.elf_object.specs.Found.{tab-passed, passed-weaker, passed-found, passed-kept, kept-tab, kept-passed}
+use Rattle.elf_object.specs.Found.{passed-weaker, passed-found, passed-kept, kept-tab, kept-passed}
 use Rattle.elf_object.specs.Inside.{TablesRuled, tables-in-use, bytes-inside, headers-inside, header-passes}
 
 -- ---- rows
@@ -58,7 +59,7 @@ module _ (f : List ℕ) (h : Headers) (n : ℕ) (ok : all (relocTableOk (tab (he
       hs = tab (headerIn f h) (h .sections)
 
       numbers : all (λ x. leb (x .index) (h .sections)) hs ≡ true
-      numbers = tab-passed (λ x. leb (x .index) (h .sections)) (headerIn f h) (h .sections) (λ i l. le-leb (1 + i) (h .sections) (omega arith))
+      numbers = all-tab (headerIn f h) (λ x. leb (x .index) (h .sections)) (h .sections) (λ i l. le-leb (1 + i) (h .sections) (omega arith))
 
       named : (t : Header) → relocTableOk hs t ≡ true → t .info ≤ h .sections
       named t e = go (sectionNumbered hs (t .info)) refl (both-true (maybe (sectionNumbered hs (t .info)) false (λ x. not (isRelocations x))) _ e .0)

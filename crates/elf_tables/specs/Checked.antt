@@ -21,7 +21,8 @@ use Rattle.elf_header.specs.Headers.{headerIn}
 use Rattle.elf_header.specs.Used.{usedBy, usedIn}
 use Rattle.elf_layout.specs.Layout.{tablesOk}
 use Rattle.elf_tables.specs.declared.Counted.{Counted}
-use Rattle.elf_tables.specs.Walks.{all-of-kept, all-tab, all-not}
+use Rattle.elf_laws.specs.All.{all-of-kept, all-tab}
+use Rattle.elf_tables.specs.Walks.{all-not}
 use Rattle.elf_tables.specs.Numbered.{sectionsBy, sectionBy, fileBy}
 
 -- ---- 25

@@ -21,7 +21,8 @@ use Rattle.elf_header.specs.Headers.{headerIn, fileHeaderOf, headersOf, headers
 use Rattle.elf_layout.specs.declared.Layout.{Layout}
 use Rattle.elf_layout.specs.Layout.{tablesOk, stringsStart, tableSymbols, symbolsStart, tableNumber, elfView, layoutOf}
 use Rattle.elf_tables.specs.declared.Bounds.{Bounds}
-use Rattle.elf_tables.specs.Walks.{find-hit, all-tab-at}
+use Rattle.elf_laws.specs.All.{all-tab-at}
+use Rattle.elf_tables.specs.Walks.{find-hit}
 use Rattle.elf_tables.specs.Numbered.{sectionsBy, sectionBy, tableBy, hasSection, numbered-none, HasNumber, number-is, numbered-zero, first-table, fileBy}
 
 -- where the string table of a number begins and ends

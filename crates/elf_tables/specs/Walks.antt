@@ -1,6 +1,6 @@
 -- A table walked from the front: which is the first that passes a test, and whether all do.
-use mathlib.Core.Path.{_≡_, refl, sym, ap, _∙_}
-use mathlib.Core.Bool.{Bool, true, false, cond, _&&_, _||_, not}
+use mathlib.Core.Path.{_≡_, refl, sym, _∙_}
+use mathlib.Core.Bool.{Bool, true, false, cond}
 use mathlib.Core.List.{List, [], _∷_, _++_}
 use mathlib.Core.Option.{none, some}
 use mathlib.Core.Logic.{_⊎_, inl, inr, ⊎-elim}
@@ -8,9 +8,10 @@ use Prim.Native.Nat.{ℕ, zero, suc, _<_}
 use native.Mathlib.Nat.{not-suc-le-zero, le-of-suc-le-suc, eq-or-lt-of-le}
 use native.Mathlib.Omega.{arith}
 use Rattle.lists.specs.Tab.{tab}
-use Rattle.lists.specs.Tests.{both-true, true-not-false}
-use Rattle.model.specs.Bytes.{push, keep, orElse, firstIn, find}
+use Rattle.lists.specs.Tests.{true-not-false}
+use Rattle.model.specs.Bytes.{orElse, firstIn, find}
 use Rattle.model.specs.Deposit.{all}
+use Rattle.elf_laws.specs.All.{all-tab-at}
 
 -- ---- tests of lists
 
@@ -27,30 +28,6 @@ module _ {A : Type 0} where
       go : (b : Bool) → find p (l ++ (x ∷ [])) ≡ orElse (find p l) (cond (p x) (some x) none)
           → orElse (cond b (some y) none) (find p (l ++ (x ∷ []))) ≡ orElse (orElse (cond b (some y) none) (find p l)) (cond (p x) (some x) none)
       go true h = refl
-      go false h = h
-
-  all-last : (p : A → Bool) (x : A) (l : List A) → all p (l ++ (x ∷ [])) ≡ (all p l && p x)
-  unfolding all
-  all-last p x [] = go (p x)
-    where
-      go : (b : Bool) → (b && true) ≡ b
-      go true = refl
-      go false = refl
-  all-last p x (y ∷ l) = go (p y) (all-last p x l)
-    where
-      go : (b : Bool) → all p (l ++ (x ∷ [])) ≡ (all p l && p x) → (b && all p (l ++ (x ∷ []))) ≡ ((b && all p l) && p x)
-      go true h = h
-      go false h = refl
-
-  -- a test of those kept is a test of all that lets the others pass
-  pub all-of-kept : (q p : A → Bool) (l : List A) → all p (keep q l) ≡ all (λ x. not (q x) || p x) l
-  unfolding keep all
-  all-of-kept q p [] = refl
-  all-of-kept q p (x ∷ l) = go (q x) (all-of-kept q p l)
-    where
-      go : (b : Bool) → all p (keep q l) ≡ all (λ y. not (q y) || p y) l
-          → all p (push b x (keep q l)) ≡ ((not b || p x) && all (λ y. not (q y) || p y) l)
-      go true h = ap (λ (t : Bool). p x && t) h
       go false h = h
 
 -- ---- a table
@@ -89,21 +66,9 @@ module _ {A : Type 0} (g : ℕ → A) (p : A → Bool) where
       go e true q = inr (record { at = n; below = omega arith; is = find-last p (g n) (tab g n) ∙ rw (e, q); passes = q })
       go e false q = inl (find-last p (g n) (tab g n) ∙ rw (e, q))
 
-  pub all-tab : (n : ℕ) → ((i : ℕ) → i < n → p (g i) ≡ true) → all p (tab g n) ≡ true
-  unfolding tab all
-  all-tab zero h = refl
-  all-tab (suc n) h = all-last p (g n) (tab g n) ∙ rw (all-tab n (λ i l. h i (omega arith))) (h n (omega arith))
-
-  pub all-tab-at : (n i : ℕ) → i < n → all p (tab g n) ≡ true → p (g i) ≡ true
-  unfolding tab
-  all-tab-at zero i l e = absurd (not-suc-le-zero l)
-  all-tab-at (suc n) i l e =
-      let (a, b) = both-true (all p (tab g n)) (p (g n)) (sym (all-last p (g n) (tab g n)) ∙ e) in
-      ⊎-elim (λ (q : i ≡ n). rw q b) (λ (m : i < n). all-tab-at n i m a) (eq-or-lt-of-le (le-of-suc-le-suc l))
-
   pub all-not : (n i : ℕ) → i < n → p (g i) ≡ false → all p (tab g n) ≡ false
   all-not n i l e = go (all p (tab g n)) refl
     where
       go : (b : Bool) → all p (tab g n) ≡ b → b ≡ false
-      go true q = true-not-false (sym (all-tab-at n i l q) ∙ e)
+      go true q = true-not-false (sym (all-tab-at g p n i l q) ∙ e)
       go false q = refl

@@ -10,7 +10,8 @@ use denote.Ref.{now}
 use Rattle.model.specs.ElfRefusals.{entryOk}
 use Rattle.elf_header.specs.Headers.{headerIn}
 use Rattle.elf_header.specs.Used.{usedBy}
-use Rattle.elf_tables.specs.Walks.{all-of-kept, all-tab, all-not}
+use Rattle.elf_laws.specs.All.{all-of-kept, all-tab}
+use Rattle.elf_tables.specs.Walks.{all-not}
 use Rattle.elf_tables.specs.Numbered.{sectionsBy}
 use Rattle.elf_tables.specs.Checked.{usedOk}
 use borrow.Author.Needs.{needs}
