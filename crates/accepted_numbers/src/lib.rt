@@ -1,1 +1,2 @@
 // What holds of the record numbers of an object that is not refused. No code stands here.
+#![tactic(auto)]

@@ -1,4 +1,5 @@
 // The bytes of a lent catalogue: the places of its parts, and the parts laid one after the other.
+#![tactic(auto)]
 ghost use Rattle.std.specs.Prelude.{◌≡◌, ◌++◌, ◌+◌, ◌*◌, ◌≤◌, length, take, drop};
 ghost use Rattle.std.proofs.Math.Option.{none};
 ghost use Rattle.model.specs.Bytes.{each};
@@ -20,7 +21,7 @@ use parse_first::LicenseAt;
 use parse_sections::Counts;
 
 // Where the parts begin, and where the last ends.
-#[derive(Drop)]
+#[derive(Clone, Copy)]
 pub struct Places {
     pub sections: usize,
     pub programs: usize,
@@ -32,7 +33,7 @@ pub struct Places {
 }
 
 // What is laid for each number of a table.
-#[derive(Drop)]
+#[derive(Clone, Copy)]
 enum Part {
     Name(Piece),
     Code,

@@ -1,4 +1,5 @@
 // The own bytes of maps, by map numbers.
+#![tactic(auto)]
 ghost use Rattle.std.specs.Prelude.{◌≡◌, ◌++◌, ◌+◌, ◌^◌, ◌<◌, ◌≤◌, length, take, drop};
 ghost use Rattle.records.specs.Readable.{Readable};
 ghost use Rattle.bytes_maps.specs.Own.{own_of, own_bytes};
@@ -13,7 +14,7 @@ use section_kind::is_bss;
 use stream::size;
 
 // What a map's own bytes are: zeros, or a range of the data.
-#[derive(Drop)]
+#[derive(Clone, Copy)]
 pub enum Own {
     Nothing,
     Zeros(usize),

@@ -1,4 +1,5 @@
 // The bytes of a lent catalogue: copies of runs of the stream, and the names of records.
+#![tactic(auto)]
 ghost use Rattle.std.specs.Prelude.{◌≡◌, ◌++◌, ◌+◌, ◌^◌, ◌<◌, ◌≤◌, min, length, take, drop};
 ghost use Rattle.stream.specs.Stream.{bytes_at, place as place_of};
 ghost use Rattle.bytes_names.specs.Pieces.{extent_of, piece_of, PieceInside};
@@ -10,7 +11,7 @@ use records::{gap, map_name, name_at, section_name, symbol_name};
 use stream::{Run, size};
 
 // Which name a number stands for: that of a section, of a symbol, or of a map.
-#[derive(Drop)]
+#[derive(Clone, Copy)]
 pub enum Piece {
     SectionName,
     SymbolName,

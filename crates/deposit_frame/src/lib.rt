@@ -1,4 +1,5 @@
 // Number 1: the length of a deposit and the check of each block.
+#![tactic(auto)]
 ghost use Rattle.std.specs.Prelude.{◌≡◌, ◌+◌, ◌*◌, ◌<◌, ◌≤◌, length, take};
 ghost use Rattle.model.specs.Bytes.{part};
 ghost use Rattle.model.specs.Deposit.{weigh as weightOf, check_ok, checks_ok, frame_ok};
@@ -25,7 +26,7 @@ fn widened(x: u16) -> u32
 }
 
 // A column of bytes that stand q apart: their sum, and the sum of each one times its row, counted from 1.
-#[derive(Drop)]
+#[derive(Clone, Copy)]
 struct Column {
     sum: u16,
     moment: u16,

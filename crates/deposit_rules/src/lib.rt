@@ -1,4 +1,5 @@
 // Number 2, the rules of a deposit's stream, and number 3: each record and each name that one refers to is looked at once.
+#![tactic(auto)]
 ghost use Rattle.std.specs.Prelude.{◌≡◌, ◌+◌, ◌*◌, ◌/◌, ◌^◌, ◌<◌, ◌≤◌, min, max, length};
 ghost use Rattle.model.specs.Deposit.{end_of, all, all_zero, head_ok, within, relocation_ok};
 ghost use Rattle.stream.specs.Stream.{bytes_at, place as place_of};
@@ -250,7 +251,7 @@ pub fn symbols_ok(d: &[u8], h: Head, clean: bool) -> bool
 }
 
 // What the section records say: a rule is broken (2), one of them is named `.BTF` (3), or neither.
-#[derive(Drop)]
+#[derive(Clone, Copy)]
 pub enum Checked {
     Broken,
     Btf,

@@ -1,4 +1,5 @@
 // The header of an ELF file and its section headers by number, read where they lie.
+#![tactic(auto)]
 ghost use Rattle.std.specs.Prelude.{◌≡◌, ◌||◌, ◌+◌, ◌*◌, ◌^◌, ◌<◌, ◌≤◌, min, eqb, length};
 ghost use Rattle.model.specs.Elf.{file_order, entry_count};
 ghost use Rattle.elf_header.specs.Headers.{header_in, entries_at, file_header_of, present_sections, first_place, headers_of};
@@ -9,7 +10,7 @@ use model::Endianness;
 use stream::size;
 
 // What the file header says: the byte order, and of the section header table its place, how many entries it has, and the number of its string table.
-#[derive(Drop)]
+#[derive(Clone, Copy)]
 pub struct FileHeader {
     pub order: Endianness,
     pub at: u64,
@@ -18,7 +19,7 @@ pub struct FileHeader {
 }
 
 // The sections' headers: where that of section 1 lies, and how many there are.
-#[derive(Drop)]
+#[derive(Clone, Copy)]
 pub struct Headers {
     pub order: Endianness,
     pub first: usize,

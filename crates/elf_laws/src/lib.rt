@@ -1,1 +1,2 @@
 // Laws of an ELF file's definitions. No code stands here.
+#![tactic(auto)]

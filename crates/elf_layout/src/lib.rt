@@ -1,9 +1,10 @@
 // How a file that passes 25 and all of 26 but its names lies in its bytes.
+#![tactic(auto)]
 use model::Refusal;
 use object_view::{Strings, View};
 
 // The view of it, where its two string tables end, and the number of its symbol table, 0 where it has none.
-#[derive(Drop)]
+#[derive(Clone, Copy)]
 pub struct Layout {
     pub view: View,
     pub ends: Strings,
@@ -11,7 +12,7 @@ pub struct Layout {
 }
 
 // What checking a file answers: its layout, or why it is refused.
-#[derive(Drop)]
+#[derive(Clone, Copy)]
 pub enum FileCheck {
     Layout(Layout),
     Refused(Refusal),

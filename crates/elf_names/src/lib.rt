@@ -1,4 +1,5 @@
 // The lengths of the names that records of an ELF file bear. For long names a memo keeps, at each 1,024th byte of the string table, where the letters stop.
+#![tactic(auto)]
 ghost use Rattle.std.specs.Prelude.{◌≡◌, true, ◌+◌, ◌*◌, ◌≤◌, min, length, drop};
 ghost use Rattle.std.proofs.Math.Seq.{slice};
 ghost use Rattle.elf_names.specs.Lengths.{string_table, strings_ok, string_lengths};
@@ -39,7 +40,7 @@ fn stride(d: &[u8], p: usize, end: usize) -> usize
 }
 
 // What is told of one name: its length, that it breaks a rule, or that it is long and there is no memo.
-#[derive(Drop)]
+#[derive(Clone, Copy)]
 enum Measured {
     Length(u32),
     Broken,
@@ -150,7 +151,7 @@ fn measure(d: &[u8], strings: usize, end: usize, offset: usize, memo: &mut [u32]
 }
 
 // What is told of all names: they are fine and their lengths are stored, one breaks a rule, or one is long and there is no memo.
-#[derive(Drop)]
+#[derive(Clone, Copy)]
 enum Surveyed {
     Fine,
     Broken,

@@ -1,1 +1,2 @@
 // Laws of a file's view. No code stands here.
+#![tactic(auto)]

@@ -1,4 +1,5 @@
 // The records of an ELF file, read where they lie. A number that the file's end cuts is 0; of an opened file none is.
+#![tactic(auto)]
 ghost use Rattle.std.specs.Prelude.{◌≡◌, ◌+◌, ◌*◌, ◌%◌, ◌^◌, ◌<◌, ◌≤◌, length, get_or};
 ghost use Rattle.model.specs.Bytes.{part};
 ghost use Rattle.model.specs.LicenceVersion.{number};

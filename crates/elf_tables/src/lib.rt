@@ -1,4 +1,5 @@
 // Numbers 25 and 26 of an ELF file by its headers, all but the names; the layout of a file that passes.
+#![tactic(auto)]
 ghost use Rattle.std.specs.Prelude.{◌≡◌, true, ◌||◌, ◌+◌, ◌*◌, ◌<◌, ◌≤◌, eqb, length};
 ghost use Rattle.model.specs.Bytes.{maybe, inside};
 ghost use Rattle.model.specs.Deposit.{all};
@@ -202,7 +203,7 @@ fn reloc_table_ok(d: &[u8], h: Headers, i: u32) -> bool
 }
 
 // What a pass over the sections answers: how many relocations there are, or that a rule is broken.
-#[derive(Drop)]
+#[derive(Clone, Copy)]
 enum Counted {
     Entries(u32),
     Broken,
@@ -251,7 +252,7 @@ fn check_tables(d: &[u8], f: FileHeader, h: Headers, table: u32) -> Counted
 // ---- the layout
 
 // Where a string table begins and ends; one without bytes is nowhere.
-#[derive(Drop)]
+#[derive(Clone, Copy)]
 struct Bounds {
     start: u32,
     end: u32,

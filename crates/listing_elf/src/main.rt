@@ -1,4 +1,5 @@
 // Reads an ELF file from standard input and writes its catalogue, or why it goes back.
+#![tactic(auto)]
 mod room;
 
 ghost use Rattle.std.specs.Prelude.{◌≡◌, ◌+◌, ◌*◌, ◌≤◌, length, take};

@@ -1,4 +1,5 @@
 // The listing's text, laid behind what a lent buffer has, as far as there is room.
+#![tactic(auto)]
 ghost use Rattle.std.specs.Prelude.{◌≡◌, ◌∷◌, ◌+◌, ◌*◌, ◌<◌, ◌≤◌, min, length, take};
 ghost use Rattle.model.specs.Bytes.{each, records, part};
 ghost use Rattle.model.specs.Listing.{decimal, variant_name, version_text, program_line, function_line, map_line, refusal_text};
@@ -76,7 +77,7 @@ fn put_decimal(out: &mut [u8], at: usize, n: u64) -> usize
 }
 
 // What of the n bytes from `from` on lies in b.
-#[derive(Drop)]
+#[derive(Clone, Copy)]
 struct Span {
     start: usize,
     end: usize,

@@ -1,4 +1,5 @@
 // What a load decides of an object that is not refused, before it fills the lent tables: whether its catalogue fits, and what refuses a patch list.
+#![tactic(auto)]
 ghost use Rattle.std.specs.Prelude.{◌≡◌, ◌≤◌, length, take};
 ghost use Rattle.std.proofs.Math.Option.{none};
 ghost use Rattle.model.specs.Lent.{too_small as tooSmallOf};
@@ -26,14 +27,14 @@ use rows_relocations::put_relocation_rows;
 use stream::size;
 
 // How many rows each table has, and where the parts of the bytes begin.
-#[derive(Drop)]
+#[derive(Clone, Copy)]
 pub struct Plan {
     pub counts: Counts,
     pub relocations: usize,
     pub places: Places,
 }
 
-#[derive(Drop)]
+#[derive(Clone, Copy)]
 pub enum Decision {
     Refused(Refusal),
     Accepted(Plan),

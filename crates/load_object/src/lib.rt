@@ -1,4 +1,5 @@
 // An opened object loaded, but for the function table: what refuses it is decided, the lent tables and bytes are filled, then the bytes are finished.
+#![tactic(auto)]
 ghost use Rattle.std.specs.Prelude.{◌≡◌, ◌≤◌, length, replicate};
 ghost use Rattle.std.proofs.Math.Option.{none};
 ghost use Rattle.model.specs.Lent.{bytes_of, lent_room, filled, image_of, outcome_in};
@@ -25,7 +26,7 @@ use parse_tables::parse;
 use rows_functions::Rows;
 use stream::size;
 
-#[derive(Drop)]
+#[derive(Clone, Copy)]
 pub struct Loaded {
     pub answer: Answer,
     pub rows: Rows,

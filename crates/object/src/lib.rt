@@ -1,4 +1,5 @@
 // What an object's records stand for: the kind of a section, which symbols are programs or defined text, and where code begins.
+#![tactic(auto)]
 ghost use Rattle.std.specs.Prelude.{◌≡◌};
 ghost use Rattle.model.specs.Refusals.{no_symbol};
 ghost use Rattle.model.specs.SectionKind.{kind_of};
@@ -11,7 +12,7 @@ use records::name_at;
 use stream::size;
 
 // What a check of a part of the object finds: nothing, or why the object is refused.
-#[derive(Drop)]
+#[derive(Clone, Copy)]
 pub enum Checked {
     Fine,
     Refused(Refusal),

@@ -1,18 +1,19 @@
 // How an opened object lies in the bytes that were given, and which index its records have for none.
+#![tactic(auto)]
 ghost use Rattle.std.specs.Prelude.{◌≡◌};
 ghost use Rattle.object_view.specs.NoIndex.{is_none};
 
 use model::{Endianness, Refusal, SectionIndex, SymbolIndex};
 
 // What was given: a deposit's blocks, or an ELF file.
-#[derive(Drop)]
+#[derive(Clone, Copy)]
 pub enum Form {
     Deposit,
     Elf,
 }
 
 // Where in the stream the tables (each its record 0), the names and the data begin. A file's extents are places of the file, so its names and data begin at 0.
-#[derive(Drop)]
+#[derive(Clone, Copy)]
 pub struct Places {
     pub sections: u32,
     pub symbols: u32,
@@ -22,14 +23,14 @@ pub struct Places {
 }
 
 // Where a file's string tables begin: that of its sections' names and that of its symbols'.
-#[derive(Drop)]
+#[derive(Clone, Copy)]
 pub struct Strings {
     pub sections: u32,
     pub symbols: u32,
 }
 
 // An opened object: its form and byte order, how many records there are, and where they lie.
-#[derive(Drop)]
+#[derive(Clone, Copy)]
 pub struct View {
     pub form: Form,
     pub order: Endianness,
@@ -41,7 +42,7 @@ pub struct View {
 }
 
 // What opening answers: the view of an object that can be read, or why it is refused.
-#[derive(Drop)]
+#[derive(Clone, Copy)]
 pub enum Opened {
     View(View),
     Refused(Refusal),

@@ -1,4 +1,5 @@
 // Number 4 by one look at a section's range; the licence and the version: where they stand, and numbers 5 to 7.
+#![tactic(auto)]
 ghost use Rattle.std.specs.Prelude.{◌≡◌, cond, ◌++◌, ◌+◌, ◌≤◌, length, drop};
 ghost use Rattle.std.proofs.Math.Option.{none};
 ghost use Rattle.lists.specs.Tab.{tab};
@@ -21,21 +22,21 @@ use object_view::{View, is_no_symbol};
 use records::{Cursor, Step, data_place, name_at};
 use stream::size;
 
-#[derive(Drop)]
+#[derive(Clone, Copy)]
 pub enum Found {
     At(u32),
     Nothing,
 }
 
 // Where the licence stands in the stream, without its closing zero.
-#[derive(Drop)]
+#[derive(Clone, Copy)]
 pub enum LicenseAt {
     Gpl,
     Bytes(usize, usize),
 }
 
 // The first section named `license`, and the first named `version`.
-#[derive(Drop)]
+#[derive(Clone, Copy)]
 pub struct Named {
     pub license: Found,
     pub version: Found,

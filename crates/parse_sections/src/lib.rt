@@ -1,4 +1,5 @@
 // Numbers 4 to 17 of an object, and the record numbers that its sections list for each table, by one pass over them.
+#![tactic(auto)]
 ghost use Rattle.std.specs.Prelude.{◌≡◌, ℕ, ◌+◌, ◌-◌, ◌^◌, ◌<◌, ◌≤◌, length, get_or};
 ghost use Rattle.std.proofs.Math.Seq.{slice};
 ghost use Rattle.model.specs.declared.EbpfSectionKind.{EbpfSectionKind as Kind};
@@ -31,7 +32,7 @@ use records::{Cursor, MapSource, Step, map_number};
 use stream::size;
 
 // How many record numbers there are for each table; where the licence stands, and the version.
-#[derive(Drop)]
+#[derive(Clone, Copy)]
 pub struct Counts {
     pub sections: usize,
     pub programs: usize,
@@ -41,14 +42,14 @@ pub struct Counts {
     pub version: KernelVersion,
 }
 
-#[derive(Drop)]
+#[derive(Clone, Copy)]
 pub enum Tables {
     Refused(Refusal),
     Numbers(Counts),
 }
 
 // Where a section's symbols lie among all symbols sorted by section.
-#[derive(Drop)]
+#[derive(Clone, Copy)]
 struct Group {
     lo: usize,
     hi: usize,

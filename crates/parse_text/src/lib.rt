@@ -1,4 +1,5 @@
 // Text sections: numbers 11 to 15, and the numbers of the symbols that the walk meets.
+#![tactic(auto)]
 ghost use Rattle.std.specs.Prelude.{◌≡◌, ◌+◌, ◌-◌, ◌≤◌, length};
 ghost use Rattle.std.proofs.Math.Option.{some};
 ghost use Rattle.catalogue_laws.specs.Shared.{earlier as earlierOf, least_again};
@@ -15,21 +16,21 @@ use object_view::View;
 const LAST_ADDRESS: u64 = 0xFFFF_FFFF_FFFF_FFFF;
 
 // The number of the symbol that repeats an address, if there is one.
-#[derive(Drop)]
+#[derive(Clone, Copy)]
 pub enum Conflict {
     At(u32),
     Nothing,
 }
 
 // What parsing a text section answers: how far the numbers of its functions reach, or why the object is refused.
-#[derive(Drop)]
+#[derive(Clone, Copy)]
 pub enum ParsedText {
     Functions(usize),
     Refused(Refusal),
 }
 
 // The address of the last defined text symbol, if one was seen, and the least number so far to repeat an address.
-#[derive(Drop)]
+#[derive(Clone, Copy)]
 struct Again {
     seen: bool,
     address: u64,

@@ -1,4 +1,5 @@
 // A patch list as it is lent, and what refuses it: numbers 18 to 23.
+#![tactic(auto)]
 ghost use Rattle.std.specs.Prelude.{◌≡◌, not, ◌^◌, ◌<◌, eqb, get_or};
 ghost use Rattle.model.specs.Bytes.{inside, or_else};
 ghost use Rattle.model.specs.Refusals.{no_section, no_symbol, of_entry, place_refusal, entry_refusal, patch_refusal};
@@ -18,7 +19,7 @@ use patch_symbols::{Bearer, bearer_of};
 use records::symbol;
 
 // Five numbers of the list: whether all are lent, the name, the data and the must-exist mark.
-#[derive(Drop)]
+#[derive(Clone, Copy)]
 pub struct Entry {
     pub whole: bool,
     pub name: Range,

@@ -1,4 +1,5 @@
 // The symbols that bear a name: none, one or several, by a binary search among all symbols sorted by the lengths of their names, then by their bytes.
+#![tactic(auto)]
 ghost use Rattle.std.specs.Prelude.{◌≡◌, ◌^◌, ◌<◌, ◌≤◌, length};
 ghost use Rattle.model.specs.Bytes.{same, before};
 ghost use Rattle.orders.specs.Compare.{ordering};
@@ -13,7 +14,7 @@ use records::{name_at, symbol_name};
 use stream::size;
 
 // The number of the one symbol that bears a name.
-#[derive(Drop)]
+#[derive(Clone, Copy)]
 pub enum Bearer {
     Nothing,
     One(u32),

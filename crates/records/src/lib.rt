@@ -1,4 +1,5 @@
 // The one door to records: a deposit's or an ELF file's, by number, through a view; what a map's number stands for; and the walk over record numbers.
+#![tactic(auto)]
 ghost use Rattle.std.specs.Prelude.{◌≡◌, ◌+◌, ◌^◌, ◌<◌, ◌≤◌, length};
 ghost use Rattle.model.specs.Bytes.{u32};
 ghost use Rattle.model.specs.Deposit.{byte_order, end_of, extent as extent_of, section_record, symbol_record, relocation_record};
@@ -370,7 +371,7 @@ pub fn data_place(v: View, e: Extent) -> usize
 // ---- maps
 
 // What a map is made from: a section or a symbol, by record number.
-#[derive(Drop)]
+#[derive(Clone, Copy)]
 pub enum MapSource {
     Section(u32),
     Symbol(u32),
@@ -410,13 +411,13 @@ pub fn map_name(d: &[u8], t: &[u32], v: View, n: u32) -> Extent
 }
 
 // A walk over the record numbers of a table, up to `end`.
-#[derive(Drop)]
+#[derive(Clone, Copy)]
 pub struct Cursor {
     pub at: u32,
     pub end: u32,
 }
 
-#[derive(Drop)]
+#[derive(Clone, Copy)]
 pub enum Step {
     Record(u32, Cursor),
     End,

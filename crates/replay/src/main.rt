@@ -1,4 +1,5 @@
 // Each line of the input is a case, in the form of crates/replay_lines. What it lends is filled with a pattern before the call.
+#![tactic(auto)]
 ghost use Rattle.std.specs.Prelude.{◌≤◌, length};
 
 use load_elf_numbers::load_flat_elf;

@@ -3,6 +3,7 @@
 // hexadecimal, `xx(n)` is the byte xx and n more of it; entries are numbers joined by commas; `-` is nothing.
 // What is written of a case is its name and the answer, then `zeros` if all that was lent is 0, else the five tables and the bytes, where `x(n)` again
 // is x and n more of it.
+#![tactic(auto)]
 ghost use Rattle.std.specs.Prelude.{◌+◌, ◌<◌, ◌≤◌, length};
 
 use libc::STDOUT_FILENO;
@@ -20,7 +21,7 @@ pub fn least(x: u64, y: usize) -> usize
 // ---- reading
 
 // A number, and where it ends.
-#[derive(Drop)]
+#[derive(Clone, Copy)]
 struct Token {
     value: u64,
     end: usize,
@@ -107,7 +108,7 @@ fn repeat(out: &mut [u8], at: usize, count: u64) -> usize {
 }
 
 // The next place of a text, and of the bytes that it makes.
-#[derive(Drop)]
+#[derive(Clone, Copy)]
 struct Step {
     next: usize,
     used: usize,
@@ -408,7 +409,7 @@ pub fn tell(
 // ---- a case
 
 // The lengths of a case: of its name, of what it lends to be read, and of what it lends to be written; what is loaded stands in front of the last six.
-#[derive(Drop)]
+#[derive(Clone, Copy)]
 pub struct Case {
     pub name: usize,
     pub deposit: usize,

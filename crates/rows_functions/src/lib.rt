@@ -1,4 +1,5 @@
 // The function table in a lent slice of structs: its rows stored in the order of a table of record numbers, and the look-up of a row by section and address.
+#![tactic(auto)]
 ghost use Rattle.std.specs.Prelude.{◌≡◌, [], ◌∷◌, ◌+◌, ◌<◌, min, length};
 ghost use Rattle.model.specs.Lent.{zero_row};
 ghost use Rattle.model.specs.LookUp.{row_key, found_in};
@@ -16,7 +17,7 @@ use stream::wide64;
 use symbol_section::member_at;
 
 // Which rows are left to store: those of the first `count` numbers, and where the next name and the next code lie.
-#[derive(Drop)]
+#[derive(Clone, Copy)]
 pub struct Rows {
     pub view: View,
     pub count: usize,
@@ -24,7 +25,7 @@ pub struct Rows {
     pub code: u64,
 }
 
-#[derive(Drop)]
+#[derive(Clone, Copy)]
 pub struct Made {
     pub row: Function,
     pub rest: Rows,
@@ -119,7 +120,7 @@ pub fn fill(functions: &mut [Function], d: &[u8], t: &[u32], symbols: &[u32], ro
 }
 
 // What a search has left: the rows from `low` up to `high`; or none, and the row that it found.
-#[derive(Drop)]
+#[derive(Clone, Copy)]
 pub struct Search {
     pub low: usize,
     pub high: usize,

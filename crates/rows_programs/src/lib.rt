@@ -1,4 +1,5 @@
 // The rows of the program table: where a program's name lies, its length, the variant with its two values, the section's index and the address.
+#![tactic(auto)]
 ghost use Rattle.std.specs.Prelude.{◌≡◌, [], ◌∷◌, ◌++◌, ◌+◌, ◌*◌, ◌^◌, ◌<◌, ◌≤◌, length, take, drop};
 ghost use Rattle.std.proofs.lemmas.List.Edits.{sets};
 ghost use Rattle.catalogue_numbers.specs.Numbers.{program_by_number};
@@ -12,7 +13,7 @@ use stream::{size, wide64};
 use symbol_section::member_at;
 
 // A row without the place of its name.
-#[derive(Drop)]
+#[derive(Clone, Copy)]
 struct Row {
     length: usize,
     number: u64,

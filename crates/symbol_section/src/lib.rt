@@ -1,5 +1,6 @@
 // The section that an index names and the one that a symbol lies in: by a guess,
 // since the records' indexes usually follow one another, then a binary search, since they rise.
+#![tactic(auto)]
 ghost use Rattle.std.specs.Prelude.{◌≡◌, ◌-◌};
 ghost use Rattle.records.specs.View.{section_at, symbol_at};
 ghost use Rattle.records.specs.Readable.{Readable};
@@ -10,14 +11,14 @@ use object_view::{View, is_no_section};
 use records::section_index;
 
 // The number of the section record that has an index.
-#[derive(Drop)]
+#[derive(Clone, Copy)]
 pub enum Owner {
     Section(u32),
     Nothing,
 }
 
 // A symbol with the section that it lies in.
-#[derive(Drop)]
+#[derive(Clone, Copy)]
 pub struct Member {
     pub symbol: SymbolRecord,
     pub section: SectionRecord,

@@ -6,6 +6,7 @@
 // Unless changed, record i has index i + 1, a symbol lies in section 1, a relocation's target is symbol 1, a name byte is `a`, and all else is 0.
 // For each the program writes the name, what was expected, and what `open` answered: the refusal's number, or 0 and six numbers of the view:
 // byte order, sections, symbols, relocations, and where the names and the data begin.
+#![tactic(auto)]
 ghost use Rattle.std.specs.Prelude.{◌+◌, ◌^◌, ◌<◌, ◌≤◌, length};
 
 use libc::STDOUT_FILENO;
@@ -16,7 +17,7 @@ use std::num::wrapping_add_u32;
 use stream::{size, wide32};
 
 // A number of a line, and where it ends.
-#[derive(Drop)]
+#[derive(Clone, Copy)]
 struct Token {
     value: u32,
     end: usize,
@@ -273,7 +274,7 @@ fn opened_length(given: u32, h: Head) -> usize
 }
 
 // The counts of a line, from `at` on, and where they end.
-#[derive(Drop)]
+#[derive(Clone, Copy)]
 struct Counts {
     head: Head,
     end: usize,

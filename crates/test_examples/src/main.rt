@@ -1,4 +1,5 @@
 // Document 01, 'From the register's drawer': the examples that are run. A line has the number expected and the number got, 0 where nothing is refused.
+#![tactic(auto)]
 use libc::STDOUT_FILENO;
 use model::{
     Endianness, Extent, Head, ParsedLicense, ParsedProgramSection, ParsedVersion, SectionIndex,

@@ -1,4 +1,5 @@
 // Reads names, one a line, and writes each with the number of its variant and its two values, or with 8 where it is unknown.
+#![tactic(auto)]
 ghost use Rattle.std.specs.Prelude.{◌≤◌, ◌<◌, length};
 
 use model::{

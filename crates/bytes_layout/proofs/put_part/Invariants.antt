@@ -1,0 +1,20 @@
+use mathlib.Core.Path.{◌≡◌, refl, sym, ◌∙◌}
+use mathlib.Core.List.{◌++◌}
+use Prim.Native.Nat.{◌+◌, ◌-◌, ◌≤◌}
+use native.Mathlib.Nat.{add-zero}
+use native.Mathlib.Omega.{arith}
+use borrow.Author.Rules.{rules}
+use lib.ListN.{length, take, drop}
+use Rattle.lists.specs.Slice.{put-none}
+use Rattle.model.specs.Bytes.{each}
+use Rattle.bytes_layout.specs.Next.{next-room, next-end, next-laid}
+use Rattle.bytes_layout.specs.Listed.{part_of}
+use Rattle.bytes_layout.proofs.put_part.Given as goal
+
+abbrev pub invariant-loop-k : goal.invariant-loop-k
+invariant-loop-k l =
+    (l.k ≤ l.n) × (length l.out ≡ length l.initial.out) × (l.o ≡ l.at + length (each (part_of l.part l.d l.t l.v) (take l.k l.numbers)))
+    × (l.out ≡ take l.at l.initial.out ++ (each (part_of l.part l.d l.t l.v) (take l.k l.numbers) ++ drop l.o l.initial.out))
+
+abbrev pub decreases-loop-k : goal.decreases-loop-k
+decreases-loop-k l = l.n - l.k

@@ -1,0 +1,14 @@
+use mathlib.Core.Path.{◌≡◌}
+use Prim.Native.Nat.{ℕ, ◌-◌, ◌*◌, ◌%◌, ◌≤◌}
+use native.Mathlib.Nat.{mul-le-mul, mul-le-mul_right}
+use native.Mathlib.Omega.{arith}
+use borrow.Author.Rules.{rules}
+use Rattle.deposit_frame.specs.Columns.{total, plain, weighed, total-more}
+use Rattle.deposit_frame.proofs.rows_sum.Given as goal
+
+abbrev pub invariant-loop-j : goal.invariant-loop-j
+invariant-loop-j l =
+    (l.j ≤ l.q) × (l.sum ≡ total (weighed l.sums) l.j) × (l.moment ≡ total (plain l.moments) l.j) × (l.sum ≤ 128520 * l.j) × (l.moment ≤ 9180 * l.j)
+
+abbrev pub decreases-loop-j : goal.decreases-loop-j
+decreases-loop-j l = l.q - l.j

@@ -1,0 +1,95 @@
+-- `deposit_rules::check_sections` meets its contract: the records passed keep their rules, so that all do where those to go do; and one of all is named
+-- `.BTF` where one of those passed is, or of those to go.
+use mathlib.Core.Path.{◌≡◌, sym, ap, ◌∙◌}
+use mathlib.Core.Bool.{Bool, true, ◌&&◌, ◌||◌, or_assoc, or-false}
+use Prim.Native.Nat.{◌+◌, ◌-◌, ◌<◌}
+use native.Mathlib.Omega.{arith}
+use borrow.Author.Tests.{lt-ltb, le-ltb, not-true, not-false}
+use lib.Dec.{ltb}
+use lib.ListN.{drop}
+use Rattle.lists.specs.Tab.{tab}
+use Rattle.records.specs.Records.{deposit_section, cursor, step-record, step_end}
+use Rattle.deposit_rules.specs.Rules.{ruled, some_of, section_ok_at, is_btf, sections_ok, some_btf}
+use Rattle.deposit_rules.specs.Checked.{checked_sections}
+use Rattle.deposit_rules.specs.Walk.{ruled-from, ruled-end, some-from, some_end}
+use borrow.Author.Rules.{rules}
+use Rattle.deposit_rules.proofs.check_sections.Goals as goal
+use Rattle.deposit_rules.proofs.check_sections.Goals.{After-deposit_section-s, In-End, In-Record}
+
+-- the step that was taken
+moved : (c : In-Record) →
+    (c.i-1.given.0.0 ≡ c.loop-i.c.at) × (c.i-1.given.0.1.0 ≡ cursor (c.loop-i.c.at + 1) c.loop-i.c.end) × (c.loop-i.c.at < c.loop-i.c.end)
+moved c =
+    step-record c.loop-i.c c.i-1.given.0.0 c.i-1.given.0.1.0 (sym c.next.ensures ∙ c.in-Record.is)
+
+-- what is to be tested, by the record in hand
+to-go : (c : After-deposit_section-s) →
+    let a = c.args in
+    let y = c.deposit_section-s.result in
+    (sections_ok a.d.now a.h
+    ≡ (ltb c.loop-i.last.0 y.index.0
+    && (section_ok_at a.d.now a.h y
+    && ruled (λ r. r.index.0) (section_ok_at a.d.now a.h) y.index.0 (drop (c.loop-i.c.at + 1) (tab (deposit_section a.d.now) a.h.sections)))))
+    × (some_btf a.d.now a.h
+    ≡ (c.loop-i.btf || (is_btf a.d.now a.h y || some_of (is_btf a.d.now a.h) (drop (c.loop-i.c.at + 1) (tab (deposit_section a.d.now) a.h.sections)))))
+to-go c =
+    let a = c.args in
+    let m = moved c in
+    let e = c.deposit_section-s.ensures ∙ ap (deposit_section a.d.now) m.0 in
+    rw e (
+      c.loop-i.invariant.1
+          ∙ ruled-from (deposit_section a.d.now) a.h.sections c.loop-i.c.at (λ r. r.index.0) (section_ok_at a.d.now a.h) c.loop-i.last.0 (omega (arith, m)),
+      c.loop-i.invariant.2
+          ∙ ap (λ (b : Bool). c.loop-i.btf || b) (some-from (deposit_section a.d.now) a.h.sections c.loop-i.c.at (is_btf a.d.now a.h) (omega (arith, m))),
+    )
+
+pub loop-i-init : goal.loop-i-init
+unfolding sections_ok some_btf
+loop-i-init c = (rw c.new-c.ensures, rw c.new-c.ensures, rw c.new-c.ensures)
+
+pub returns-then-index-last : goal.returns-then-index-last
+unfolding checked_sections
+returns-then-index-last c = rw ((to-go (goal.at.returns-then-index-last c).After-deposit_section-s).0, le-ltb _ _ c.if-index-last.true)
+
+pub returns-then-not-section_ok : goal.returns-then-not-section_ok
+unfolding checked_sections
+returns-then-not-section_ok c =
+    let k = c.section_ok in
+    rw ((to-go (goal.at.returns-then-not-section_ok c).After-deposit_section-s).0, lt-ltb _ _ c.if-index-last.false, ← k.ensures, not-true k.result c.if-not-section_ok.true)
+
+pub loop-i-smaller : goal.loop-i-smaller
+loop-i-smaller c = let m = moved (goal.at.loop-i-smaller c).In-Record in rw m.1 (omega (arith, m.2))
+
+pub loop-i-preserved : goal.loop-i-preserved
+loop-i-preserved c =
+    let m = moved (goal.at.loop-i-preserved c).In-Record in
+    let k = c.section_ok in
+    let g = to-go (goal.at.loop-i-preserved c).After-deposit_section-s in
+    let a = c.args in
+    let rest : Bool = some_of (is_btf a.d.now a.h) (drop (c.loop-i.c.at + 1) (tab (deposit_section a.d.now) a.h.sections)) in (
+      rw m.1 c.loop-i.invariant.0,
+      rw m.1 (g.0 ∙ rw (lt-ltb _ _ c.if-index-last.false, ← k.ensures, not-false k.result c.if-not-section_ok.false)),
+      rw m.1 (g.1 ∙ rw c.is_btf-btf.ensures (sym (or_assoc c.loop-i.btf (is_btf a.d.now a.h c.deposit_section-s.result) rest))),
+    )
+
+-- behind the loop
+whole : (c : In-End) →
+    let a = c.args in
+    (sections_ok a.d.now a.h ≡ true) × (some_btf a.d.now a.h ≡ c.loop-i.btf)
+whole c =
+    let a = c.args in
+    let e = step_end c.loop-i.c (sym c.next.ensures ∙ c.in-End.is) in (
+      c.loop-i.invariant.1
+          ∙ ruled-end (deposit_section a.d.now) a.h.sections c.loop-i.c.at (λ r. r.index.0) (section_ok_at a.d.now a.h) c.loop-i.last.0 (omega arith),
+      c.loop-i.invariant.2
+          ∙ ap (λ (b : Bool). c.loop-i.btf || b) (some_end (deposit_section a.d.now) a.h.sections c.loop-i.c.at (is_btf a.d.now a.h) (omega arith))
+          ∙ or-false c.loop-i.btf,
+    )
+
+pub returns-then-btf : goal.returns-then-btf
+unfolding checked_sections
+returns-then-btf c = let w = whole (goal.at.returns-then-btf c).In-End in rw (w.0, w.1, c.if-btf.true)
+
+pub returns-else-btf : goal.returns-else-btf
+unfolding checked_sections
+returns-else-btf c = let w = whole (goal.at.returns-else-btf c).In-End in rw (w.0, w.1, c.if-btf.false)

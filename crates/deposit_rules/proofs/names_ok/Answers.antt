@@ -1,0 +1,22 @@
+-- `deposit_rules::names_ok` meets its contract: the table of names lies inside the deposit.
+use mathlib.Core.Path.{sym}
+use Prim.Native.Nat.{ℕ, ◌+◌, ◌≤◌}
+use native.Mathlib.Nat.{le_trans}
+use native.Mathlib.Omega.{arith}
+use Rattle.model.specs.Deposit.{end_of}
+use Rattle.stream.specs.Laws.{place_mono}
+use Rattle.deposit_rules.specs.Rules.{names_ok}
+use borrow.Author.Rules.{rules}
+use Rattle.deposit_rules.proofs.names_ok.Goals as goal
+
+pub name_bytes-requires : goal.name_bytes-requires
+unfolding end_of
+name_bytes-requires c =
+    let a = c.args in
+    let n : ℕ = c.names_at.result + c.size.result in
+    let l : n ≤ end_of a.h = omega arith in
+    (omega arith, omega arith, le_trans (place_mono 4 n (end_of a.h) l) c.requires)
+
+pub returns : goal.returns
+unfolding names_ok
+returns c = rw (c.names_at.ensures.0, c.size.ensures.0) at c.name_bytes.ensures

@@ -1,0 +1,12 @@
+-- `elf::index_relocations` meets its contract.
+use Rattle.elf.specs.Asked.{relocations-ask, relocations-said}
+use borrow.Author.Rules.{rules}
+use Rattle.elf.proofs.index_relocations.Goals as goal
+
+pub place_relocations-requires : goal.place_relocations-requires
+place_relocations-requires c =
+    relocations-ask c.args.d.now c.args.l c.requires.0 _ _ c.size.ensures.0 c.requires.1
+
+pub returns : goal.returns
+returns c =
+    relocations-said c.args.d.now c.args.l c.requires.0 _ _ c.size.ensures.0 c.place_relocations.ensures

@@ -1,0 +1,15 @@
+-- `elf::open` meets its contract.
+use mathlib.Core.Path.{sym, ◌∙◌}
+use Rattle.elf.specs.Opened.{passes}
+use Rattle.elf.specs.Told.{opens-refused}
+use borrow.Author.Rules.{rules}
+use Rattle.elf.proofs.open.Goals as goal
+
+pub open_layout-requires : goal.open_layout-requires
+open_layout-requires c =
+    let e = c.in-Layout.is in
+    (passes c.args.d.now c.checked-in-Layout-1.given.0.0 (sym e ∙ c.requires.0), rw e at c.requires.1)
+
+pub returns-in-Refused : goal.returns-in-Refused
+returns-in-Refused c =
+    opens-refused c.args.d.now c.args.t.now c.checked-1.given.0.0 (sym c.in-Refused.is ∙ c.requires.0)

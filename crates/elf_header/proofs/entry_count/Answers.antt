@@ -1,0 +1,6 @@
+-- `elf_header::entry_count` meets its contract.
+use borrow.Author.Rules.{rules}
+use Rattle.elf_header.proofs.entry_count.Goals as goal
+
+pub returns : goal.returns
+returns c = rw (c.section_size.ensures, c.entry_size-width.ensures.0, c.section_type.ensures)

@@ -1,0 +1,13 @@
+-- `elf_header::section_size` meets its contract.
+use mathlib.Core.Path.{◌∙◌}
+use native.Mathlib.Omega.{arith}
+use borrow.Author.Rules.{rules}
+use Rattle.model.specs.Elf.{header_of}
+use Rattle.elf_header.specs.Headers.{header-field}
+use Rattle.elf_header.proofs.section_size.Goals as goal
+
+pub returns : goal.returns
+unfolding header_of
+returns c =
+    let a = c.args in
+    c.eight_in.ensures ∙ rw c.size.ensures.0 (header-field a.d.now a.h a.i 32 8 (omega arith))

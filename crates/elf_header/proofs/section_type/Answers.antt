@@ -1,0 +1,13 @@
+-- `elf_header::section_type` meets its contract.
+use mathlib.Core.Path.{◌∙◌}
+use native.Mathlib.Omega.{arith}
+use borrow.Author.Rules.{rules}
+use Rattle.model.specs.Elf.{header_of}
+use Rattle.elf_header.specs.Headers.{header-field}
+use Rattle.elf_header.proofs.section_type.Goals as goal
+
+pub returns : goal.returns
+unfolding header_of
+returns c =
+    let a = c.args in
+    c.four_in.ensures ∙ rw c.size.ensures.0 (header-field a.d.now a.h a.i 4 4 (omega arith))

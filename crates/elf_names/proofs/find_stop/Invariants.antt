@@ -1,0 +1,15 @@
+use mathlib.Core.Path.{◌≡◌, sym, ◌∙◌}
+use Prim.Native.Nat.{◌+◌, ◌-◌, ◌*◌, ◌/◌, ◌≤◌}
+use native.Mathlib.Omega.{arith}
+use Rattle.elf_records.specs.Elf.{index_at}
+use Rattle.elf_names.specs.Stop.{stop, stop-within, stop-same}
+use Rattle.elf_names.specs.Told.{stopped-at, stopped-past}
+use borrow.Author.Rules.{rules}
+use Rattle.elf_names.proofs.find_stop.Given as goal
+
+abbrev pub invariant-loop-strings : goal.invariant-loop-strings
+invariant-loop-strings l =
+    (l.p ≤ l.strings + 1024 * l.j) × (l.strings + 1024 * l.j ≤ l.end) × (stop l.d l.end (l.strings + 1024 * l.j) ≡ stop l.d l.end l.p)
+
+abbrev pub decreases-loop-strings : goal.decreases-loop-strings
+decreases-loop-strings l = l.end + 1 - (l.strings + 1024 * l.j)

@@ -1,0 +1,11 @@
+-- `elf_records::eight_in` meets its contract.
+use native.Mathlib.Omega.{arith}
+use Rattle.elf_records.specs.Orders.{eight-little, eight-big}
+use borrow.Author.Rules.{rules}
+use Rattle.elf_records.proofs.eight_in.Goals as goal
+
+pub returns-in-Little : goal.returns-in-Little
+returns-in-Little c = let a = c.args in omega (arith, eight-little a.d.now a.i (omega arith) a.order c.in-Little.is)
+
+pub returns-in-Big : goal.returns-in-Big
+returns-in-Big c = let a = c.args in omega (arith, eight-big a.d.now a.i (omega arith) a.order c.in-Big.is)

@@ -1,0 +1,11 @@
+-- `elf_records::two` meets its contract.
+use native.Mathlib.Omega.{arith}
+use Rattle.elf_records.specs.Orders.{two-little, two-big}
+use borrow.Author.Rules.{rules}
+use Rattle.elf_records.proofs.two.Goals as goal
+
+pub returns-in-Little : goal.returns-in-Little
+returns-in-Little c = let a = c.args in let e = two-little a.d.now a.i a.order c.in-Little.is (omega arith) in (omega (arith, e), omega arith)
+
+pub returns-in-Big : goal.returns-in-Big
+returns-in-Big c = let a = c.args in let e = two-big a.d.now a.i a.order c.in-Big.is (omega arith) in (omega (arith, e), omega arith)

@@ -1,0 +1,13 @@
+-- `elf_records::u16_at` meets its contract.
+use borrow.Author.Tests.{eq-eqb, ne_eqb, le-leb, lt-leb}
+use Rattle.elf_records.specs.Elf.{field_at}
+use borrow.Author.Rules.{rules}
+use Rattle.elf_records.proofs.u16_at.Goals as goal
+
+pub returns-then-p-d : goal.returns-then-p-d
+unfolding field_at
+returns-then-p-d c = rw (le-leb _ _ c.if-p-d.true) c.two.ensures.0
+
+pub returns-else-p-d : goal.returns-else-p-d
+unfolding field_at
+returns-else-p-d c = rw (lt-leb _ _ c.if-p-d.false)

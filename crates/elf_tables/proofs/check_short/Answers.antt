@@ -1,0 +1,22 @@
+-- `elf_tables::check_short` meets its contract.
+use mathlib.Core.Path.{◌≡◌, sym, ap, ◌∙◌}
+use borrow.Author.Tests.{not-true, not-false}
+use Rattle.model.specs.Elf.{file_order}
+use Rattle.elf_ident.specs.FirstBytes.{first_bytes_ok}
+use Rattle.elf_tables.specs.Answered.{checked-short}
+use borrow.Author.Rules.{rules}
+use Rattle.elf_tables.proofs.check_short.Goals as goal
+use Rattle.elf_tables.proofs.check_short.Goals.{After-first_bytes_ok}
+
+first-bytes : (c : After-first_bytes_ok) →
+    let d = c.args.d.now in
+    c.first_bytes_ok.result ≡ first_bytes_ok d (file_order d)
+first-bytes c = c.first_bytes_ok.ensures ∙ ap (first_bytes_ok c.args.d.now) c.file_order.ensures
+
+pub returns-then-not-first_bytes_ok : goal.returns-then-not-first_bytes_ok
+returns-then-not-first_bytes_ok c =
+    c.refused.ensures ∙ sym (checked-short c.args.d.now c.requires ∙ rw (← first-bytes (goal.at.returns-then-not-first_bytes_ok c).After-first_bytes_ok, not-true c.first_bytes_ok.result c.if-not-first_bytes_ok.true))
+
+pub returns : goal.returns
+returns c =
+    c.refused-2.ensures ∙ sym (checked-short c.args.d.now c.requires ∙ rw (← first-bytes (goal.at.returns c).After-first_bytes_ok, not-false c.first_bytes_ok.result c.if-not-first_bytes_ok.false))

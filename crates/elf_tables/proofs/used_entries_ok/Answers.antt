@@ -1,0 +1,44 @@
+-- `elf_tables::used_entries_ok` meets its contract: each section passed is not in use, or its entry size is right.
+use mathlib.Core.Path.{◌≡◌, sym, ◌∙◌}
+use mathlib.Core.Bool.{true}
+use mathlib.Core.Logic.{⊎_elim}
+use Prim.Native.Nat.{ℕ, ◌-◌, ◌<◌, ◌≤◌}
+use native.Mathlib.Omega.{arith}
+use borrow.Author.Count.{below_none, below_more}
+use borrow.Author.Tests.{not-true, not-false}
+use Rattle.model.specs.ElfRefusals.{entry_ok}
+use Rattle.elf_header.specs.Headers.{header_in}
+use Rattle.elf_header.specs.Used.{used_by}
+use Rattle.elf_laws.specs.All.{all-of-kept, all-tab}
+use Rattle.elf_tables.specs.Walks.{all-not}
+use Rattle.elf_tables.specs.Numbered.{sections_by}
+use Rattle.elf_tables.specs.Checked.{used_ok}
+use borrow.Author.Rules.{rules}
+use Rattle.elf_tables.proofs.used_entries_ok.Goals as goal
+
+pub loop-i-init : goal.loop-i-init
+loop-i-init c = (omega arith, below_none _)
+
+pub returns-then-not-entry_ok : goal.returns-then-not-entry_ok
+returns-then-not-entry_ok c =
+    let a = c.args in
+    sym
+    (all-of-kept (used_by a.table) (entry_ok a.h.order) (sections_by a.d.now a.h)
+    ∙ all-not (header_in a.d.now a.h) (used_ok a.table (entry_ok a.h.order)) a.h.sections c.loop-i.i c.loop-i-test.true
+    (rw (← c.in_use.ensures, c.if-in_use.true, ← c.entry_ok.ensures, not-true c.entry_ok.result c.if-not-entry_ok.true)))
+
+pub loop-i-preserved : goal.loop-i-preserved
+loop-i-preserved c =
+    (
+      omega arith,
+      below_more _ _ c.loop-i.invariant.1
+          (⊎_elim (λ w. rw (← c.in_use.ensures, w.0.true, ← w.1.ensures, not-false w.1.result w.2.false))
+          (λ w. rw (← c.in_use.ensures, w.false)) c.if-in_use.branch),
+    )
+
+pub returns : goal.returns
+returns c =
+    let a = c.args in
+    sym
+    (all-of-kept (used_by a.table) (entry_ok a.h.order) (sections_by a.d.now a.h)
+    ∙ all-tab (header_in a.d.now a.h) (used_ok a.table (entry_ok a.h.order)) a.h.sections (λ k h. c.loop-i.invariant.1 k (omega arith)))

@@ -1,0 +1,21 @@
+-- `listing_text::put_map` meets its contract: the line's pieces, one behind the other.
+use Rattle.listing_text.specs.Lines.{map-text}
+use mathlib.Core.Path.{◌≡◌}
+use Prim.Native.Nat.{◌+◌}
+use lib.ListN.{length, get_or}
+use Rattle.model.specs.Bytes.{part}
+use Rattle.listing_text.specs.Laid.{then, same_text}
+use borrow.Author.Rules.{rules}
+use Rattle.listing_text.proofs.put_map.Goals as goal
+
+-- NO GOAL: slice-aggregate-put : tie.Need-slice-aggregate-put
+-- NO GOAL: slice-aggregate-put c = search rules
+
+-- NO GOAL: slice-aggregate-put-2 : tie.Need-slice-aggregate-put-2
+-- NO GOAL: slice-aggregate-put-2 c = search rules
+
+pub returns : goal.returns
+returns c =
+    let a = c.args in
+    let n : c.part_length.result ≡ length (part a.bytes.now (get_or a.maps.now (a.p + 5) 0) (get_or a.maps.now (a.p + 6) 0)) = c.part_length.ensures in
+    same_text (rw n (map-text a.bytes.now a.maps.now a.p)) (then c.requires.0 (then c.requires.0 (then c.requires.0 (then c.requires.0 (then c.requires.0 c.put-o.ensures c.put_part-o.ensures) c.put_number-o.ensures) c.put_number-o-2.ensures) c.put_number-o-3.ensures) c.put.ensures)

@@ -1,0 +1,15 @@
+use mathlib.Core.Path.{◌≡◌, ◌∙◌}
+use mathlib.Core.List.{◌++◌, append-nil}
+use Prim.Native.Nat.{◌≤◌, ◌-◌}
+use lib.ListN.{drop, replicate, length, length-set}
+use lib.Seq.{drop-length}
+use borrow.Author.Fill.{fill_more}
+use borrow.Author.Rules.{rules}
+use native.Mathlib.Omega.{arith}
+use Rattle.lists.proofs.zero8.Given as goal
+
+abbrev pub invariant-loop-i : goal.invariant-loop-i
+invariant-loop-i l = (l.i ≤ length l.initial.t) × (length l.t ≡ length l.initial.t) × (l.t ≡ replicate l.i 0 ++ drop l.i l.initial.t)
+
+abbrev pub decreases-loop-i : goal.decreases-loop-i
+decreases-loop-i l = length l.initial.t - l.i

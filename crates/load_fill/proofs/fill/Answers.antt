@@ -1,0 +1,31 @@
+-- `load_fill::fill` meets its contract.
+use mathlib.Core.Path.{◌∙◌}
+use native.Mathlib.Omega.{arith}
+use Rattle.bytes_layout.specs.Parts.{catalogue}
+use Rattle.load_fill.specs.Fills.{relocations-filled}
+use borrow.Author.Rules.{rules}
+use Rattle.load_fill.proofs.fill.Goals as goal
+
+pub overflow_mul-plan : goal.overflow_mul-plan
+overflow_mul-plan c = omega (arith, c.requires.few)
+
+pub clear_from-requires : goal.clear_from-requires
+clear_from-requires c = c.requires.room-relocations
+
+pub fill_bytes-requires : goal.fill_bytes-requires
+fill_bytes-requires c = let g = c.requires in (g.readable, g.ok, g.held, g.at, g.room-bytes)
+
+pub shape_of-sections : goal.shape_of-sections
+shape_of-sections c = c.fill_sections.auto.1.1.1.1.1.1.0
+
+pub returns : goal.returns
+returns c =
+    let a = c.args in
+    let g = c.requires in (
+      c.fill_sections.ensures,
+      c.fill_programs.ensures,
+      c.fill_maps.ensures,
+      c.clear_from.ensures
+          ∙ relocations-filled (catalogue a.d.now a.t.now a.v) a.relocations-1.now a.relocations-1.now a.plan.relocations g.count g.room-relocations g.stored,
+      c.fill_bytes.ensures,
+    )

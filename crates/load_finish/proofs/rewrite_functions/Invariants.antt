@@ -1,0 +1,20 @@
+use mathlib.Core.Path.{◌≡◌, refl, ap, ◌∙◌}
+use mathlib.Core.Bool.{true}
+use mathlib.Core.List.{List, ◌++◌}
+use Prim.Native.Nat.{ℕ, ◌+◌, ◌-◌, ◌≤◌}
+use native.Mathlib.Omega.{arith}
+use borrow.Author.Rules.{rules}
+use lib.ListN.{length, get_or, take, drop}
+use Rattle.model.specs.Bytes.{each, part}
+use Rattle.insn.specs.Sanitized.{sanitized}
+use Rattle.bytes_code.specs.Code.{code_at}
+use Rattle.bytes_layout.specs.Next.{next-room, next-end}
+use Rattle.load_finish.specs.Functions.{begin-rewritten, passed-eights, rewritten-long, next-rewritten}
+use Rattle.load_finish.proofs.rewrite_functions.Given as goal
+
+abbrev pub invariant-loop-k : goal.invariant-loop-k
+invariant-loop-k l =
+    (l.k ≤ l.n) × (l.at ≡ l.start + length (each (code_at l.d l.t l.v) (take l.k l.functions))) × (l.out ≡ take l.start l.initial.out ++ (sanitized true (part l.initial.out l.start (l.at - l.start)) ++ drop l.at l.initial.out))
+
+abbrev pub decreases-loop-k : goal.decreases-loop-k
+decreases-loop-k l = l.n - l.k

@@ -1,0 +1,21 @@
+-- `load_numbers::load_flat` meets its contract.
+use mathlib.Core.Path.{◌≡◌, ap, ◌∙◌}
+use mathlib.Core.List.{[]}
+use lib.ListN.{length}
+use Rattle.model.specs.FunctionNumbers.{flat_of, flat_room}
+use Rattle.load_numbers.specs.Loads.{deposit-opens, deposit-loads}
+use borrow.Author.Rules.{rules}
+use Rattle.load_numbers.proofs.load_flat.Goals as goal
+
+pub load_flat_opened-requires : goal.load_flat_opened-requires
+load_flat_opened-requires c =
+    let a = c.args in
+    deposit-opens a.d.now [] c.«open».result c.«open».ensures
+
+pub returns : goal.returns
+returns c =
+    let a = c.args in
+    c.load_flat_opened.ensures
+    ∙ ap (flat_of (length a.functions-1.now))
+    (deposit-loads a.d.now [] c.«open».result c.«open».ensures a.entries.now a.patches.now a.rewrite
+    (flat_room a.sections-1.now a.programs-1.now a.functions-1.now a.maps-1.now a.relocations-1.now a.bytes-1.now))

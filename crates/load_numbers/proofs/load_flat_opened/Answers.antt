@@ -1,0 +1,26 @@
+-- `load_numbers::load_flat_opened` meets its contract.
+use mathlib.Core.Path.{◌≡◌}
+use Prim.Native.Nat.{ℕ}
+use lib.ListN.{length, replicate, length-replicate}
+use Rattle.model.specs.FunctionNumbers.{rows_in, flat_room}
+use Rattle.model.specs.Lent.{outcome_in}
+use Rattle.rows_functions.specs.Rows.{rows_made}
+use Rattle.load_object.specs.Done.{verdict_in}
+use Rattle.load_numbers.specs.Loads.{opens-few, flat-done}
+use borrow.Author.Rules.{rules}
+use Rattle.load_numbers.proofs.load_flat_opened.Goals as goal
+
+pub load_core-loaded-requires : goal.load_core-loaded-requires
+load_core-loaded-requires c =
+    opens-few c.args.d.now c.args.t.now c.args.opened c.requires (replicate 65536 0) (length-replicate {A = ℕ} 65536 0)
+
+pub returns : goal.returns
+returns c =
+    let f = c.fill_rows in
+    let k = c.load_core-loaded in
+    let a = c.args in
+    flat-done (length a.functions-1.now)
+    (outcome_in (flat_room a.sections-1.now a.programs-1.now a.functions-1.now a.maps-1.now a.relocations-1.now a.bytes-1.now)
+    (verdict_in a.d.now a.t.now a.opened a.entries.now a.patches.now a.rewrite))
+    k.result.answer k.new.1.1.1.1.1.1.1.0 k.new.1.1.1.1.1.1.1.1.0 f.new.0 k.new.1.1.1.1.1.1.1.1.1.0 k.new.1.1.1.1.1.1.1.1.1.1.0 k.new.1.1.1.1.1.1.1.1.1.1.1.0
+    (rows_made a.d.now a.t.now k.new.1.1.1.1.1.1.1.1.1.1.1.1.0 0 k.result.rows (rows_in (length a.functions-1.now))) f.ensures k.ensures.0

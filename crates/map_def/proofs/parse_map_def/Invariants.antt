@@ -1,0 +1,17 @@
+use mathlib.Core.Path.{◌≡◌, refl, ap, ◌∙◌}
+use mathlib.Core.List.{List, ◌++◌, append-nil}
+use Prim.Native.Nat.{ℕ, ◌≤◌, ◌-◌}
+use lib.ListN.{drop, replicate, length, length-set}
+use Rattle.lists.specs.Tab.{tab, tab-set}
+use Rattle.stream.specs.Stream.{bytes_at}
+use Rattle.map_def.specs.Record.{word_of, words-tab}
+use borrow.Author.Rules.{rules}
+use native.Mathlib.Omega.{arith}
+use Rattle.map_def.proofs.parse_map_def.Given as goal
+
+abbrev pub invariant-loop-k : goal.invariant-loop-k
+invariant-loop-k l =
+    (l.k ≤ 7) × (length l.initial.words ≡ 7) × (length l.words ≡ 7) × (l.words ≡ tab (word_of (bytes_at l.d l.gap l.at l.n)) l.k ++ drop l.k l.initial.words)
+
+abbrev pub decreases-loop-k : goal.decreases-loop-k
+decreases-loop-k l = 7 - l.k

@@ -1,0 +1,34 @@
+-- `parse_first::check_version` meets its contract: number 4 first, then by what was parsed.
+use mathlib.Core.Path.{◌≡◌, sym, ap, ◌∙◌}
+use Rattle.model.specs.Refusals.{untargeted}
+use Rattle.object.specs.Checked.{checked_of}
+use Rattle.object.specs.View.{section_from}
+use Rattle.parse_first.specs.Targets.{reaches-untargeted}
+use Rattle.parse_first.specs.LicenceVersion.{version-four, version-parsed}
+use borrow.Author.Rules.{rules}
+use Rattle.parse_first.proofs.check_version.Goals as goal
+use Rattle.parse_first.proofs.check_version.Goals.{After-untargeted}
+
+-- number 4 of the section
+four : (c : After-untargeted)
+    → (let a = c.args in c.untargeted.result ≡ untargeted (section_from a.d.now a.t.now a.v a.s).relocs)
+four c =
+    let a = c.args in
+    c.untargeted.ensures ∙ reaches-untargeted a.d.now a.t.now a.v a.next.now a.s c.requires.0 c.requires.1
+
+pub returns-then-untargeted : goal.returns-then-untargeted
+returns-then-untargeted c =
+    let a = c.args in
+    c.of_section.ensures ∙ ap checked_of (sym (version-four a.d.now a.t.now a.v a.s (sym (four (goal.at.returns-then-untargeted c).After-untargeted) ∙ c.if-untargeted.true) a.v.order))
+
+pub returns-in-Version : goal.returns-in-Version
+returns-in-Version c =
+    let a = c.args in
+    let p = sym c.parsed_version.ensures ∙ c.in-Version.is in
+    ap checked_of (sym (version-parsed a.d.now a.t.now a.v a.s (sym (four (goal.at.returns-in-Version c).After-untargeted) ∙ c.if-untargeted.false) a.v.order _ p))
+
+pub returns-in-InvalidKernelVersion : goal.returns-in-InvalidKernelVersion
+returns-in-InvalidKernelVersion c =
+    let a = c.args in
+    let p = sym c.parsed_version.ensures ∙ c.in-InvalidKernelVersion.is in
+    c.of_section-in-InvalidKernelVersion.ensures ∙ ap checked_of (sym (version-parsed a.d.now a.t.now a.v a.s (sym (four (goal.at.returns-in-InvalidKernelVersion c).After-untargeted) ∙ c.if-untargeted.false) a.v.order _ p))

@@ -1,0 +1,62 @@
+-- `patch_checks::patch_refusal` meets its contract: what refuses the list is what refuses its rest at entry e.
+use mathlib.Core.Path.{◌≡◌, refl, sym, ap, ◌∙◌}
+use Prim.Native.Nat.{◌+◌, ◌-◌, ◌^◌, ◌<◌, ◌≤◌}
+use native.Mathlib.Omega.{arith}
+use Rattle.model.specs.Refusals.{entry_refusal}
+use Rattle.object.specs.Checked.{checked_of}
+use Rattle.object.specs.View.{object_in}
+use Rattle.patch_checks.specs.declared.Entry.{Entry}
+use Rattle.patch_checks.specs.Entries.{patch_by, patch_at}
+use Rattle.patch_checks.specs.Checks.{maps_of_numbers, rest_at, rest_all, rest-refused, rest-next, rest_end}
+use borrow.Author.Rules.{rules}
+use Rattle.patch_checks.proofs.patch_refusal.Goals as goal
+use Rattle.patch_checks.proofs.patch_refusal.Goals.{After-entry_at-x, After-entry_refusal}
+
+pub loop-e-init : goal.loop-e-init
+loop-e-init c = (omega arith, refl)
+
+pub entry_refusal-requires : goal.entry_refusal-requires
+entry_refusal-requires c =
+    (c.requires.0, rw c.entry_at-x.ensures (c.requires.1 c.loop-e.e (omega arith)))
+
+answer : (c : After-entry_refusal)
+    → (let a = c.args in
+    c.entry_refusal.result ≡ checked_of (entry_refusal (object_in a.d.now a.t.now a.v) (maps_of_numbers a.d.now a.t.now a.v a.maps.now a.n) (c.loop-e.e + 1) (patch_at a.entries.now a.patches.now c.loop-e.e)))
+answer c =
+    let a = c.args in
+    c.entry_refusal.ensures
+    ∙ ap (λ (x : Entry). checked_of (entry_refusal (object_in a.d.now a.t.now a.v) (maps_of_numbers a.d.now a.t.now a.v a.maps.now a.n) (c.loop-e.e + 1) (patch_by a.patches.now x)))
+    c.entry_at-x.ensures
+
+pub returns-in-Refused : goal.returns-in-Refused
+returns-in-Refused c =
+    let a = c.args in
+    let o = object_in a.d.now a.t.now a.v in
+    let ms = maps_of_numbers a.d.now a.t.now a.v a.maps.now a.n in
+    let l = c.loop-e in
+    let w = c.entry_refusal.result in
+    let told = c.in-Refused.is in
+    sym told ∙ rest-refused o ms a.entries.now a.patches.now l.e (omega arith) w (answer (goal.at.returns-in-Refused c).After-entry_refusal) _ told
+    ∙ ap checked_of (sym (rest_all o ms a.entries.now a.patches.now ∙ l.invariant.1))
+
+few : (c : After-entry_at-x) → c.loop-e.e + 1 < 2 ^ 64
+few c = omega arith
+
+pub overflow_add-e : goal.overflow_add-e
+overflow_add-e c = omega (arith, few (goal.at.overflow_add-e c).After-entry_at-x)
+
+pub loop-e-preserved : goal.loop-e-preserved
+loop-e-preserved c =
+    let a = c.args in
+    let o = object_in a.d.now a.t.now a.v in
+    let ms = maps_of_numbers a.d.now a.t.now a.v a.maps.now a.n in
+    let l = c.loop-e in
+    (omega arith, l.invariant.1 ∙ (rest-next o ms a.entries.now a.patches.now l.e (omega arith) c.entry_refusal.result (answer (goal.at.loop-e-preserved c).After-entry_refusal) c.in_default.is).1)
+
+pub returns : goal.returns
+returns c =
+    let a = c.args in
+    let o = object_in a.d.now a.t.now a.v in
+    let ms = maps_of_numbers a.d.now a.t.now a.v a.maps.now a.n in
+    let l = c.loop-e in
+    sym (ap checked_of (rest_all o ms a.entries.now a.patches.now ∙ l.invariant.1 ∙ rest_end o ms a.entries.now a.patches.now l.e (omega arith)))

@@ -1,0 +1,15 @@
+use mathlib.Core.Path.{◌≡◌, refl, ◌∙◌}
+use mathlib.Core.List.{◌++◌}
+use Prim.Native.Nat.{◌+◌, ◌-◌, ◌<◌, ◌≤◌}
+use native.Mathlib.Omega.{arith}
+use lib.ListN.{length, get_or, drop, length-set}
+use Rattle.patch_maps.specs.Places.{map_home, home_below, places_from, cleared, places-start, places-more, places-all}
+use borrow.Author.Rules.{rules}
+use Rattle.patch_maps.proofs.maps_by_section.Given as goal
+
+abbrev pub invariant-loop-k : goal.invariant-loop-k
+invariant-loop-k l =
+    (l.k ≤ l.n) × (length l.by ≡ length l.initial.by) × (l.by ≡ places_from l.d l.t l.v l.maps l.n l.k ++ drop l.v.sections l.initial.by)
+
+abbrev pub decreases-loop-k : goal.decreases-loop-k
+decreases-loop-k l = l.k

@@ -1,0 +1,19 @@
+-- `records::symbol_of` meets its contract: the reserved bytes are the last six of eight.
+use mathlib.Core.Path.{◌≡◌}
+use Prim.Native.Nat.{◌/◌}
+use native.Mathlib.Omega.{arith}
+use Rattle.model.specs.Bytes.{little, part}
+use Rattle.model.specs.Deposit.{symbol_record}
+use Rattle.stream.specs.Fields.{part-first}
+use borrow.Author.Rules.{rules}
+use Rattle.records.proofs.symbol_of.Goals as goal
+
+pub returns : goal.returns
+unfolding symbol_record
+returns c =
+    let s = c.args.s.now in
+    let small = c.shared_slice_known-1.given in
+    let e : c.eight-3.result / 65536 ≡ little (part s 34 6) =
+    omega (arith, c.eight-3.ensures, part-first s 32 7 (omega arith), part-first s 33 6 (omega arith), small 32, small 33)
+    in
+    cc e

@@ -1,0 +1,27 @@
+-- `rows_programs::put7` meets its contract: the seven stores are those of `sets`.
+use native.Mathlib.Numerals.{towards_suc}
+use native.Mathlib.Omega.{arith}
+use lib.ListN.{length-set}
+use borrow.Author.Rules.{rules}
+use Rattle.rows_programs.proofs.put7.Goals as goal
+
+pub bounds-t-i-2 : goal.bounds-t-i-2
+bounds-t-i-2 c = simp length-set (omega arith)
+
+pub bounds-t-i-3 : goal.bounds-t-i-3
+bounds-t-i-3 c = simp length-set (omega arith)
+
+pub bounds-t-i-4 : goal.bounds-t-i-4
+bounds-t-i-4 c = simp length-set (omega arith)
+
+pub bounds-t-i-5 : goal.bounds-t-i-5
+bounds-t-i-5 c = simp length-set (omega arith)
+
+pub bounds-t-i-6 : goal.bounds-t-i-6
+bounds-t-i-6 c = simp length-set (omega arith)
+
+pub bounds-t-i-7 : goal.bounds-t-i-7
+bounds-t-i-7 c = simp length-set (omega arith)
+
+pub returns : goal.returns
+returns c = simp towards_suc

@@ -1,0 +1,16 @@
+use mathlib.Core.Path.{◌≡◌, refl, ◌∙◌}
+use mathlib.Core.List.{◌++◌, append-nil}
+use Prim.Native.Nat.{◌≤◌, ◌-◌}
+use lib.ListN.{length, drop, length-take, length-drop, length-set}
+use lib.Seq.{drop-length}
+use Rattle.stream.specs.Stream.{bytes_at}
+use Rattle.stream.specs.Laws.{copied_more, copied-whole}
+use borrow.Author.Rules.{rules}
+use native.Mathlib.Omega.{arith}
+use Rattle.stream.proofs.copy_plain.Given as goal
+
+abbrev pub invariant-loop-k : goal.invariant-loop-k
+invariant-loop-k l = (l.k ≤ length l.initial.t) × (length l.t ≡ length l.initial.t) × (l.t ≡ bytes_at l.d 0 l.i l.k ++ drop l.k l.initial.t)
+
+abbrev pub decreases-loop-k : goal.decreases-loop-k
+decreases-loop-k l = length l.initial.t - l.k

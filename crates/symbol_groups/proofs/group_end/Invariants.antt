@@ -1,0 +1,20 @@
+use Prim.Native.Nat.{◌-◌, ◌≤◌}
+use mathlib.Core.Path.{◌≡◌, sym, ap, ◌∙◌}
+use lib.ListN.{length}
+use lib.Seq.{slice}
+use native.Mathlib.Omega.{arith}
+use borrow.Author.Rules.{rules}
+use Rattle.model.specs.declared.SectionIndex.{SectionIndex}
+use Rattle.catalogue_laws.specs.SectionsPrograms.{All}
+use Rattle.symbol_groups.specs.Cut.{raw, all_more, all_none}
+use Rattle.symbol_groups.proofs.group_end.Reads as reads
+use Rattle.symbol_groups.proofs.group_end.Lts as lts
+use Rattle.records.proofs.symbol_section.Reads as symbol-section-reads
+use Rattle.symbol_groups.proofs.group_end.Given as goal
+
+abbrev pub invariant-loop-at : goal.invariant-loop-at
+invariant-loop-at l =
+    (l.from ≤ l.at) × (l.at ≤ length l.symbols) × All (λ j. raw l.d l.t l.v l.symbols l.from l.k.0 j ≡ l.k.0) (slice l.from l.at l.symbols)
+
+abbrev pub decreases-loop-at : goal.decreases-loop-at
+decreases-loop-at l = length l.symbols - l.at
