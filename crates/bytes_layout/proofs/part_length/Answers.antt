@@ -10,7 +10,7 @@ code_length-requires c = (c.requires.0, rw c.in-Code.is at c.requires.1)
 pub returns-in-Name : goal.returns-in-Name
 returns-in-Name c =
     let a = c.args in
-    part-told a.d.now a.t.now a.v c.requires.0 a.part-1 (Part.Name c.part-1.given.0.0) a.j c.name_length.result c.in-Name.is c.requires.1 c.name_length.ensures.0
+    part-told a.d.now a.t.now a.v c.requires.0 a.part (Part.Name c.part-1.given.0.0) a.j c.name_length.result c.in-Name.is c.requires.1 c.name_length.ensures.0
 
 pub returns-in-Code : goal.returns-in-Code
 returns-in-Code c =

@@ -31,11 +31,11 @@ loop-k-preserved c =
     let a = c.args in
     let f = part_of a.part a.d.now a.t.now a.v in
     let p = c.put_one-o in
-    let room = next-room f a.numbers.now a.at c.loop-k.k c.loop-k.o c.loop-k.invariant.2 a.n (length a.out-1.now) (omega arith) (omega arith) (omega arith) in (
+    let room = next-room f a.numbers.now a.at c.loop-k.k c.loop-k.o c.loop-k.invariant.2 a.n (length a.out.now) (omega arith) (omega arith) (omega arith) in (
       omega arith,
       c.put_one-o.auto.1.1.1.1.1.0 ∙ c.loop-k.invariant.1,
       next-end f a.numbers.now a.at c.loop-k.k c.loop-k.o c.loop-k.invariant.2 p.result (omega arith) p.ensures.0,
-      next-laid f a.numbers.now a.at c.loop-k.k c.loop-k.o c.loop-k.invariant.2 p.result (omega arith) p.ensures.0 a.out-1.now c.loop-k.out _
+      next-laid f a.numbers.now a.at c.loop-k.k c.loop-k.o c.loop-k.invariant.2 p.result (omega arith) p.ensures.0 a.out.now c.loop-k.out _
           (omega (arith, room)) c.loop-k.invariant.3 p.ensures.1,
     )
 

@@ -61,7 +61,7 @@ returns-in-Zeros c =
     let len = c.len-1.given.0.0 in
     let z = own-zeros (goal.at.returns-in-Zeros c).In-Zeros in (
       omega (arith, z),
-      zeros-laid a.at len a.out-1.now c.zero8.new.0 (omega (arith, z)) c.zero8.ensures
+      zeros-laid a.at len a.out.now c.zero8.new.t (omega (arith, z)) c.zero8.ensures
           ∙ rw (zeros-bytes a.d.now a.t.now a.v a.n len (sym c.in-Zeros.is ∙ c.own_of_lem.ensures)),
     )
 

@@ -76,12 +76,12 @@ loop-left-preserved c =
     let k : ℕ = a.n - c.loop-left.false in
     let e : k + m ≡ a.n - (c.loop-left.false - m) = omega (arith, t) in
     let f : a.p + k + m ≡ a.p + (a.n - (c.loop-left.false - m)) = omega (arith, t) in
-    let q = copy_more a.d.now a.gap a.p k c.loop-left.false m c.loop-left.run a.at c.loop-left.o a.out-1.now c.loop-left.out
-    c.copy8.new.0 t (omega arith) (omega (arith, t)) c.loop-left.invariant.2 c.loop-left.invariant.4 c.copy8.ensures
+    let q = copy_more a.d.now a.gap a.p k c.loop-left.false m c.loop-left.run a.at c.loop-left.o a.out.now c.loop-left.out
+    c.copy8.new.dst t (omega arith) (omega (arith, t)) c.loop-left.invariant.2 c.loop-left.invariant.4 c.copy8.ensures
     in (
       omega (arith, t),
       omega (arith, t),
-      ap length q ∙ copied-length a.d.now a.gap a.p (k + m) a.at (c.loop-left.o + m) a.out-1.now (omega arith) (omega (arith, t)),
+      ap length q ∙ copied-length a.d.now a.gap a.p (k + m) a.at (c.loop-left.o + m) a.out.now (omega arith) (omega (arith, t)),
       c.skip-run.ensures ∙ t.moved ∙ ap (run_at a.gap) f,
       q ∙ rw e,
     )

@@ -13,7 +13,7 @@ use Rattle.deposit.proofs.check_stream.Goals as goal
 
 pub returns-then-not-head_ok : goal.returns-then-not-head_ok
 unfolding checked_stream stream_ok_at records_ok_at
-returns-then-not-head_ok c = rw (← c.head_ok.ensures, not-true c.head_ok.result c.if-not-head_ok.true)
+returns-then-not-head_ok c = rw (← c.head_ok.ensures, c.if-not-head_ok.true)
 
 pub returns-then-end-len : goal.returns-then-end-len
 unfolding checked_stream stream_ok_at records_ok_at
@@ -21,7 +21,7 @@ returns-then-end-len c =
     let a = c.args in
     let e = c.end_of_lem.ensures.0 in
     let f : leb (end_of a.h) (stream_length a.d.now) ≡ false = lt-leb _ _ (rw e at c.if-end-len.true) in
-    rw (← c.head_ok.ensures, not-false c.head_ok.result c.if-not-head_ok.false, f)
+    rw (← c.head_ok.ensures, c.if-not-head_ok.false, f)
 
 pub returns-then-len-end : goal.returns-then-len-end
 unfolding checked_stream stream_ok_at records_ok_at
@@ -30,7 +30,7 @@ returns-then-len-end c =
     let e = c.end_of_lem.ensures.0 in
     let f : leb (end_of a.h) (stream_length a.d.now) ≡ true = le-leb _ _ (rw e at c.if-end-len.false) in
     let g : ltb (stream_length a.d.now) (end_of a.h + 508) ≡ false = le-ltb _ _ (rw e at c.if-len-end.true) in
-    rw (← c.head_ok.ensures, not-false c.head_ok.result c.if-not-head_ok.false, f, g)
+    rw (← c.head_ok.ensures, c.if-not-head_ok.false, f, g)
 
 pub returns-then-not-rest_ok : goal.returns-then-not-rest_ok
 unfolding checked_stream stream_ok_at records_ok_at
@@ -39,7 +39,7 @@ returns-then-not-rest_ok c =
     let e = c.end_of_lem.ensures.0 in
     let f : leb (end_of a.h) (stream_length a.d.now) ≡ true = le-leb _ _ (rw e at c.if-end-len.false) in
     let g : ltb (stream_length a.d.now) (end_of a.h + 508) ≡ true = lt-ltb _ _ (rw e at c.if-len-end.false) in
-    rw (← c.head_ok.ensures, not-false c.head_ok.result c.if-not-head_ok.false, f, g, ← c.rest_ok.ensures, not-true c.rest_ok.result c.if-not-rest_ok.true)
+    rw (← c.head_ok.ensures, c.if-not-head_ok.false, f, g, ← c.rest_ok.ensures, c.if-not-rest_ok.true)
 
 pub symbols_ok-requires : goal.symbols_ok-requires
 symbols_ok-requires c = (search rules, λ e. sym c.names_ok-clean.ensures ∙ e)
@@ -51,7 +51,7 @@ returns-then-not-symbols_ok c =
     let e = c.end_of_lem.ensures.0 in
     let f : leb (end_of a.h) (stream_length a.d.now) ≡ true = le-leb _ _ (rw e at c.if-end-len.false) in
     let g : ltb (stream_length a.d.now) (end_of a.h + 508) ≡ true = lt-ltb _ _ (rw e at c.if-len-end.false) in
-    rw (← c.head_ok.ensures, not-false c.head_ok.result c.if-not-head_ok.false, f, g, ← c.rest_ok.ensures, not-false c.rest_ok.result c.if-not-rest_ok.false, ← c.symbols_ok.ensures, not-true c.symbols_ok.result c.if-not-symbols_ok.true)
+    rw (← c.head_ok.ensures, c.if-not-head_ok.false, f, g, ← c.rest_ok.ensures, c.if-not-rest_ok.false, ← c.symbols_ok.ensures, c.if-not-symbols_ok.true)
 
 pub returns-then-not-relocations_ok : goal.returns-then-not-relocations_ok
 unfolding checked_stream stream_ok_at records_ok_at
@@ -60,7 +60,7 @@ returns-then-not-relocations_ok c =
     let e = c.end_of_lem.ensures.0 in
     let f : leb (end_of a.h) (stream_length a.d.now) ≡ true = le-leb _ _ (rw e at c.if-end-len.false) in
     let g : ltb (stream_length a.d.now) (end_of a.h + 508) ≡ true = lt-ltb _ _ (rw e at c.if-len-end.false) in
-    rw (← c.head_ok.ensures, not-false c.head_ok.result c.if-not-head_ok.false, f, g, ← c.rest_ok.ensures, not-false c.rest_ok.result c.if-not-rest_ok.false, ← c.symbols_ok.ensures, not-false c.symbols_ok.result c.if-not-symbols_ok.false, ← c.relocations_ok.ensures, not-true c.relocations_ok.result c.if-not-relocations_ok.true)
+    rw (← c.head_ok.ensures, c.if-not-head_ok.false, f, g, ← c.rest_ok.ensures, c.if-not-rest_ok.false, ← c.symbols_ok.ensures, c.if-not-symbols_ok.false, ← c.relocations_ok.ensures, c.if-not-relocations_ok.true)
 
 pub check_sections-requires : goal.check_sections-requires
 check_sections-requires c = (search rules, λ e. sym c.names_ok-clean.ensures ∙ e)
@@ -72,4 +72,4 @@ returns c =
     let e = c.end_of_lem.ensures.0 in
     let f : leb (end_of a.h) (stream_length a.d.now) ≡ true = le-leb _ _ (rw e at c.if-end-len.false) in
     let g : ltb (stream_length a.d.now) (end_of a.h + 508) ≡ true = lt-ltb _ _ (rw e at c.if-len-end.false) in
-    rw (← c.head_ok.ensures, not-false c.head_ok.result c.if-not-head_ok.false, f, g, ← c.rest_ok.ensures, not-false c.rest_ok.result c.if-not-rest_ok.false, ← c.symbols_ok.ensures, not-false c.symbols_ok.result c.if-not-symbols_ok.false, ← c.relocations_ok.ensures, not-false c.relocations_ok.result c.if-not-relocations_ok.false) c.check_sections.ensures
+    rw (← c.head_ok.ensures, c.if-not-head_ok.false, f, g, ← c.rest_ok.ensures, c.if-not-rest_ok.false, ← c.symbols_ok.ensures, c.if-not-symbols_ok.false, ← c.relocations_ok.ensures, c.if-not-relocations_ok.false) c.check_sections.ensures

@@ -15,13 +15,13 @@ pub returns-then-not-check_ok : goal.returns-then-not-check_ok
 returns-then-not-check_ok c =
     let a = c.args in
     let r = c.check_ok in
-    sym (c.loop-n.invariant.1 ∙ checks-next a.d.now a.blocks c.loop-n.n (omega arith) ∙ rw (← r.ensures, not-true r.result c.if-not-check_ok.true))
+    sym (c.loop-n.invariant.1 ∙ checks-next a.d.now a.blocks c.loop-n.n (omega arith) ∙ rw (← r.ensures, c.if-not-check_ok.true))
 
 pub loop-n-preserved : goal.loop-n-preserved
 loop-n-preserved c =
     let a = c.args in
     let r = c.check_ok in
-    (omega arith, c.loop-n.invariant.1 ∙ checks-next a.d.now a.blocks c.loop-n.n (omega arith) ∙ rw (← r.ensures, not-false r.result c.if-not-check_ok.false))
+    (omega arith, c.loop-n.invariant.1 ∙ checks-next a.d.now a.blocks c.loop-n.n (omega arith) ∙ rw (← r.ensures, c.if-not-check_ok.false))
 
 pub returns : goal.returns
 returns c =

@@ -55,7 +55,7 @@ pub returns-then-not-section_ok : goal.returns-then-not-section_ok
 unfolding checked_sections
 returns-then-not-section_ok c =
     let k = c.section_ok in
-    rw ((to-go (goal.at.returns-then-not-section_ok c).After-deposit_section-s).0, lt-ltb _ _ c.if-index-last.false, ← k.ensures, not-true k.result c.if-not-section_ok.true)
+    rw ((to-go (goal.at.returns-then-not-section_ok c).After-deposit_section-s).0, lt-ltb _ _ c.if-index-last.false, ← k.ensures, c.if-not-section_ok.true)
 
 pub loop-i-smaller : goal.loop-i-smaller
 loop-i-smaller c = let m = moved (goal.at.loop-i-smaller c).In-Record in rw m.1 (omega (arith, m.2))
@@ -68,7 +68,7 @@ loop-i-preserved c =
     let a = c.args in
     let rest : Bool = some_of (is_btf a.d.now a.h) (drop (c.loop-i.c.at + 1) (tab (deposit_section a.d.now) a.h.sections)) in (
       rw m.1 c.loop-i.invariant.0,
-      rw m.1 (g.0 ∙ rw (lt-ltb _ _ c.if-index-last.false, ← k.ensures, not-false k.result c.if-not-section_ok.false)),
+      rw m.1 (g.0 ∙ rw (lt-ltb _ _ c.if-index-last.false, ← k.ensures, c.if-not-section_ok.false)),
       rw m.1 (g.1 ∙ rw c.is_btf-btf.ensures (sym (or_assoc c.loop-i.btf (is_btf a.d.now a.h c.deposit_section-s.result) rest))),
     )
 

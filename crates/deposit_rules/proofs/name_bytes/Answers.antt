@@ -16,11 +16,11 @@ use Rattle.deposit_rules.proofs.name_bytes.Goals as goal
 use Rattle.deposit_rules.proofs.name_bytes.Goals.{After-least-m, After-name_piece}
 
 turn-of : (c : After-least-m) →
-    let a = c.args in Turn a.d.now a.gap (a.p + (a.n - c.loop-left.false)) c.loop-left.false c.loop-left.run c.least-m.result
+    let a = c.args in Turn a.d.now a.gap (a.p + (a.n - c.loop.false)) c.loop.false c.loop.run c.least-m.result
 turn-of c =
     let a = c.args in
-    let e : a.p + (a.n - c.loop-left.false) + c.loop-left.false ≡ a.p + a.n = omega arith in
-    turn a.d.now a.gap (a.p + (a.n - c.loop-left.false)) c.loop-left.false c.loop-left.run c.least-m.result c.loop-left.invariant.1 (omega arith) (rw e (omega arith))
+    let e : a.p + (a.n - c.loop.false) + c.loop.false ≡ a.p + a.n = omega arith in
+    turn a.d.now a.gap (a.p + (a.n - c.loop.false)) c.loop.false c.loop.run c.least-m.result c.loop.invariant.1 (omega arith) (rw e (omega arith))
     c.least-m.ensures
 
 pub loop-left-init : goal.loop-left-init
@@ -60,7 +60,7 @@ to-go c =
     ∙ ap (λ (b : Bool). b && all name_byte rest) (sym f)
 
 pub returns-then-not-name_piece : goal.returns-then-not-name_piece
-returns-then-not-name_piece c = sym (to-go (goal.at.returns-then-not-name_piece c).After-name_piece ∙ rw (not-true c.name_piece.result c.if-not-name_piece.true))
+returns-then-not-name_piece c = sym (to-go (goal.at.returns-then-not-name_piece c).After-name_piece ∙ rw c.if-not-name_piece.true)
 
 pub skip-run-requires : goal.skip-run-requires
 skip-run-requires c = omega (arith, turn-of (goal.at.skip-run-requires c).After-least-m)
@@ -79,7 +79,7 @@ loop-left-preserved c =
     let e : a.p + (a.n - c.loop-left.false) + m ≡ a.p + (a.n - (c.loop-left.false - m)) = omega (arith, t) in (
       omega (arith, t),
       c.skip-run.ensures ∙ t.moved ∙ ap (run_at a.gap) e,
-      to-go (goal.at.loop-left-preserved c).After-name_piece ∙ rw (not-false c.name_piece.result c.if-not-name_piece.false, e),
+      to-go (goal.at.loop-left-preserved c).After-name_piece ∙ rw (c.if-not-name_piece.false, e),
     )
 
 pub returns : goal.returns

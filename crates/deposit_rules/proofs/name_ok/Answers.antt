@@ -16,12 +16,12 @@ returns-then-e-gt65535 c = rw (lt-leb _ _ c.if-e-gt65535.true)
 
 pub returns-then-not-inside : goal.returns-then-not-inside
 unfolding name_ok_at
-returns-then-not-inside c = rw (le-leb _ _ c.if-e-gt65535.false, ← c.inside.ensures, not-true c.inside.result c.if-not-inside.true)
+returns-then-not-inside c = rw (le-leb _ _ c.if-e-gt65535.false, ← c.inside.ensures, c.if-not-inside.true)
 
 pub returns-then-clean : goal.returns-then-clean
 unfolding name_ok_at
 returns-then-clean c =
-    let w = sym c.inside.ensures ∙ not-false c.inside.result c.if-not-inside.false in
+    let w = sym c.inside.ensures ∙ c.if-not-inside.false in
     let a = c.args in
     rw (le-leb _ _ c.if-e-gt65535.false, w) (sym (name-inside a.d.now a.h a.e w (c.requires.1 c.if-clean.true)))
 
@@ -29,7 +29,7 @@ pub name_bytes-requires : goal.name_bytes-requires
 unfolding end_of
 name_bytes-requires c =
     let a = c.args in
-    let w : a.e.at + a.e.length ≤ a.h.names = leb-true _ _ (sym c.inside.ensures ∙ not-false _ c.if-not-inside.false) in
+    let w : a.e.at + a.e.length ≤ a.h.names = leb-true _ _ (sym c.inside.ensures ∙ c.if-not-inside.false) in
     let n : ℕ = c.names_at.result + c.size.result + c.size-2.result in
     let l : n ≤ end_of a.h = omega arith in
     (omega arith, omega arith, le_trans (place_mono 4 n (end_of a.h) l) c.requires.0)
@@ -37,6 +37,6 @@ name_bytes-requires c =
 pub returns : goal.returns
 unfolding name_ok_at
 returns c =
-    let w = sym c.inside.ensures ∙ not-false c.inside.result c.if-not-inside.false in
+    let w = sym c.inside.ensures ∙ c.if-not-inside.false in
     rw (le-leb _ _ c.if-e-gt65535.false, w)
     (rw (c.names_at.ensures.0, c.size.ensures.0, c.size-2.ensures.0) at c.name_bytes.ensures)

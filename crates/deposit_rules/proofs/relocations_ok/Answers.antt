@@ -36,7 +36,7 @@ to-go c =
     c.loop-i.invariant.1 ∙ all_from (deposit_relocation a.d.now a.h) a.h.relocations c.loop-i.c.at relocation_ok (omega (arith, m)) ∙ rw e
 
 pub returns-then-not-relocation_ok : goal.returns-then-not-relocation_ok
-returns-then-not-relocation_ok c = sym (to-go (goal.at.returns-then-not-relocation_ok c).After-relocation_ok ∙ rw (not-true c.relocation_ok.result c.if-not-relocation_ok.true))
+returns-then-not-relocation_ok c = sym (to-go (goal.at.returns-then-not-relocation_ok c).After-relocation_ok ∙ rw c.if-not-relocation_ok.true)
 
 pub loop-i-smaller : goal.loop-i-smaller
 loop-i-smaller c = let m = moved (goal.at.loop-i-smaller c).In-Record in rw m.1 (omega (arith, m.2))
@@ -44,7 +44,7 @@ loop-i-smaller c = let m = moved (goal.at.loop-i-smaller c).In-Record in rw m.1 
 pub loop-i-preserved : goal.loop-i-preserved
 loop-i-preserved c =
     let m = moved (goal.at.loop-i-preserved c).In-Record in
-    (rw m.1 c.loop-i.invariant.0, rw m.1 (to-go (goal.at.loop-i-preserved c).After-relocation_ok ∙ rw (not-false c.relocation_ok.result c.if-not-relocation_ok.false)))
+    (rw m.1 c.loop-i.invariant.0, rw m.1 (to-go (goal.at.loop-i-preserved c).After-relocation_ok ∙ rw c.if-not-relocation_ok.false))
 
 pub returns-in-End : goal.returns-in-End
 returns-in-End c =

@@ -46,7 +46,7 @@ returns-then-index-last c = sym (to-go (goal.at.returns-then-index-last c).After
 pub returns-then-not-symbol_ok : goal.returns-then-not-symbol_ok
 returns-then-not-symbol_ok c =
     let k = c.symbol_ok in
-    sym (to-go (goal.at.returns-then-not-symbol_ok c).After-deposit_symbol-s ∙ rw (lt-ltb _ _ c.if-index-last.false, ← k.ensures, not-true k.result c.if-not-symbol_ok.true))
+    sym (to-go (goal.at.returns-then-not-symbol_ok c).After-deposit_symbol-s ∙ rw (lt-ltb _ _ c.if-index-last.false, ← k.ensures, c.if-not-symbol_ok.true))
 
 pub loop-i-smaller : goal.loop-i-smaller
 loop-i-smaller c = let m = moved (goal.at.loop-i-smaller c).In-Record in rw m.1 (omega (arith, m.2))
@@ -56,7 +56,7 @@ loop-i-preserved c =
     let m = moved (goal.at.loop-i-preserved c).In-Record in
     let k = c.symbol_ok in (
       rw m.1 c.loop-i.invariant.0,
-      rw m.1 (to-go (goal.at.loop-i-preserved c).After-deposit_symbol-s ∙ rw (lt-ltb _ _ c.if-index-last.false, ← k.ensures, not-false k.result c.if-not-symbol_ok.false)),
+      rw m.1 (to-go (goal.at.loop-i-preserved c).After-deposit_symbol-s ∙ rw (lt-ltb _ _ c.if-index-last.false, ← k.ensures, c.if-not-symbol_ok.false)),
     )
 
 pub returns-in-End : goal.returns-in-End

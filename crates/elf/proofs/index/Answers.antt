@@ -5,22 +5,22 @@ use borrow.Author.Rules.{rules}
 use Rattle.elf.proofs.index.Goals as goal
 
 pub returns-then-not-index_section_names : goal.returns-then-not-index_section_names
-returns-then-not-index_section_names c = sections-broken c.args.d.now _ _ _ c.index_section_names.ensures (not-true _ c.if-not-index_section_names.true)
+returns-then-not-index_section_names c = sections-broken c.args.d.now _ _ _ c.index_section_names.ensures c.if-not-index_section_names.true
 
 pub returns-then-not-index_symbol_names : goal.returns-then-not-index_symbol_names
 returns-then-not-index_symbol_names c =
-    symbols-broken c.args.d.now _ _ _ c.index_section_names.ensures _ _ (not-false _ c.if-not-index_section_names.false) c.index_symbol_names.ensures (not-true _ c.if-not-index_symbol_names.true)
+    symbols-broken c.args.d.now _ _ _ c.index_section_names.ensures _ _ c.if-not-index_section_names.false c.index_symbol_names.ensures c.if-not-index_symbol_names.true
 
 pub index_relocations-requires : goal.index_relocations-requires
 index_relocations-requires c =
     let a = c.args in (
       c.requires.0,
-      rest-length a.d.now a.l c.requires.0 _ _ a.t-1.now _ _ _ _ c.size-s.ensures.0 c.size.ensures.0
-          c.index_section_names.ensures (not-false _ c.if-not-index_section_names.false) c.index_symbol_names.ensures (not-false _ c.if-not-index_symbol_names.false) _ c.size-2.ensures.0 c.requires.1,
+      rest-length a.d.now a.l c.requires.0 _ _ a.t.now _ _ _ _ c.size-s.ensures.0 c.size.ensures.0
+          c.index_section_names.ensures c.if-not-index_section_names.false c.index_symbol_names.ensures c.if-not-index_symbol_names.false _ c.size-2.ensures.0 c.requires.1,
     )
 
 pub returns : goal.returns
 returns c =
     let a = c.args in
-    index-told a.d.now a.l c.requires.0 _ _ a.t-1.now _ _ _ _ c.size-s.ensures.0 c.size.ensures.0
-    c.index_section_names.ensures (not-false _ c.if-not-index_section_names.false) c.index_symbol_names.ensures (not-false _ c.if-not-index_symbol_names.false) _ c.size-2.result c.index_relocations.ensures
+    index-told a.d.now a.l c.requires.0 _ _ a.t.now _ _ _ _ c.size-s.ensures.0 c.size.ensures.0
+    c.index_section_names.ensures c.if-not-index_section_names.false c.index_symbol_names.ensures c.if-not-index_symbol_names.false _ c.size-2.result c.index_relocations.ensures

@@ -4,14 +4,14 @@ use borrow.Author.Rules.{rules}
 use Rattle.elf_header.proofs.in_use.Goals as goal
 
 pub returns-then-not-is_relocations : goal.returns-then-not-is_relocations
-returns-then-not-is_relocations c = rw (← c.section_type.ensures, ← c.is_relocations.ensures, not-true c.is_relocations.result c.if-not-is_relocations.true)
+returns-then-not-is_relocations c = rw (← c.section_type.ensures, ← c.is_relocations.ensures, c.if-not-is_relocations.true)
 
 pub returns-then-section_link-table : goal.returns-then-section_link-table
 returns-then-section_link-table c =
     rw (
       ← c.section_type.ensures,
       ← c.is_relocations.ensures,
-      not-false c.is_relocations.result c.if-not-is_relocations.false,
+      c.if-not-is_relocations.false,
       ← c.section_link.ensures,
       ne_eqb _ _ c.if-section_link-table.true,
     )
@@ -21,7 +21,7 @@ returns c =
     rw (
       ← c.section_type.ensures,
       ← c.is_relocations.ensures,
-      not-false c.is_relocations.result c.if-not-is_relocations.false,
+      c.if-not-is_relocations.false,
       ← c.section_link.ensures,
       eq-eqb _ _ c.if-section_link-table.false,
       ← c.section_info.ensures,

@@ -20,14 +20,14 @@ returns-then-not-byte_is c =
     sym
     (c.loop-i.invariant.1
     ∙ starts_from a.d.now a.s.now a.p c.loop-i.i (omega arith)
-    ∙ rw (← k.ensures, not-true k.result c.if-not-byte_is.true))
+    ∙ rw (← k.ensures, c.if-not-byte_is.true))
 
 pub loop-i-preserved : goal.loop-i-preserved
 loop-i-preserved c =
     let a = c.args in
     let k = c.byte_is in (
       omega arith,
-      c.loop-i.invariant.1 ∙ starts_from a.d.now a.s.now a.p c.loop-i.i (omega arith) ∙ rw (← k.ensures, not-false k.result c.if-not-byte_is.false),
+      c.loop-i.invariant.1 ∙ starts_from a.d.now a.s.now a.p c.loop-i.i (omega arith) ∙ rw (← k.ensures, c.if-not-byte_is.false),
     )
 
 pub returns : goal.returns

@@ -19,13 +19,13 @@ seven c =
 
 pub returns-then-not-bytes_are : goal.returns-then-not-bytes_are
 unfolding first_bytes_ok
-returns-then-not-bytes_are c = rw (← seven (goal.at.returns-then-not-bytes_are c).After-bytes_are, not-true c.bytes_are.result c.if-not-bytes_are.true)
+returns-then-not-bytes_are c = rw (← seven (goal.at.returns-then-not-bytes_are c).After-bytes_are, c.if-not-bytes_are.true)
 
 pub returns-then-not-field_is : goal.returns-then-not-field_is
 unfolding first_bytes_ok
 returns-then-not-field_is c =
     let m = c.field_is in
-    rw (← seven (goal.at.returns-then-not-field_is c).After-bytes_are, not-false c.bytes_are.result c.if-not-bytes_are.false, ← m.ensures, not-true m.result c.if-not-field_is.true)
+    rw (← seven (goal.at.returns-then-not-field_is c).After-bytes_are, c.if-not-bytes_are.false, ← m.ensures, c.if-not-field_is.true)
 
 pub returns-then-not-field_is-2 : goal.returns-then-not-field_is-2
 unfolding first_bytes_ok
@@ -34,11 +34,11 @@ returns-then-not-field_is-2 c =
     let n = c.field_is-2 in
     rw (
       ← seven (goal.at.returns-then-not-field_is-2 c).After-bytes_are,
-      not-false c.bytes_are.result c.if-not-bytes_are.false,
+      c.if-not-bytes_are.false,
       ← m.ensures,
-      not-false m.result c.if-not-field_is.false,
+      c.if-not-field_is.false,
       ← n.ensures,
-      not-true n.result c.if-not-field_is-2.true,
+      c.if-not-field_is-2.true,
     )
 
 pub returns : goal.returns
@@ -48,10 +48,10 @@ returns c =
     let n = c.field_is-2 in
     rw (
       ← seven (goal.at.returns c).After-bytes_are,
-      not-false c.bytes_are.result c.if-not-bytes_are.false,
+      c.if-not-bytes_are.false,
       ← m.ensures,
-      not-false m.result c.if-not-field_is.false,
+      c.if-not-field_is.false,
       ← n.ensures,
-      not-false n.result c.if-not-field_is-2.false,
+      c.if-not-field_is-2.false,
     )
     c.field_is-3.ensures

@@ -9,6 +9,6 @@ returns c =
     let f = c.find_stop-q in
     let a = c.args in (
       f.ensures,
-      memo-more a.d.now a.strings a.end a.p f.result a.memo-1.now c.fill.new.0 (omega arith) (omega arith) (omega arith)
+      memo-more a.d.now a.strings a.end a.p f.result a.memo.now c.fill.new.memo (omega arith) (omega arith) (omega arith)
           (f.ensures.is c.if-q-p-gt-LONGEST.false) c.requires.5 c.fill.ensures,
     )

@@ -24,6 +24,6 @@ returns-then-q-p c =
 pub returns : goal.returns
 returns c =
     let a = c.args in (
-      told-there (length a.memo-1.now) a.d.now a.strings a.end a.offset c.judge-2.result c.judge-2.ensures,
+      told-there (length a.memo.now) a.d.now a.strings a.end a.offset c.judge-2.result c.judge-2.ensures,
       c.learn_stop-far.ensures.1,
     )

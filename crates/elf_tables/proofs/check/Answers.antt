@@ -53,7 +53,7 @@ kind_ok-requires c = present (goal.at.kind_ok-requires c).After-section_headers-
 pub returns-then-not-kind_ok : goal.returns-then-not-kind_ok
 returns-then-not-kind_ok c =
     let d = c.args.d.now in
-    c.refused.ensures ∙ sym (checked-by d ∙ rw (← kind (goal.at.returns-then-not-kind_ok c).After-kind_ok, not-true c.Kind-ok.result c.if-not-kind_ok.true))
+    c.refused.ensures ∙ sym (checked-by d ∙ rw (← kind (goal.at.returns-then-not-kind_ok c).After-kind_ok, c.if-not-kind_ok.true))
 
 pub check_tables-requires : goal.check_tables-requires
 check_tables-requires c = (c.if-d-lt64.false, present (goal.at.check_tables-requires c).After-section_headers-h)
@@ -72,11 +72,11 @@ returns-in-Entries c =
     let e = read (goal.at.returns-in-Entries c).After-symbol_table-table in
     let n = c.relocations-1.given in
     ap FileCheck.Layout (c.file_layout.ensures ∙ (λ i. layout_by (e.1 i) (file_by d (e.0 i) (e.1 i) (e.2 i)) (e.2 i) n.0.0))
-    ∙ sym (checked-by d ∙ rw (← kind (goal.at.returns-in-Entries c).After-kind_ok, not-false c.Kind-ok.result c.if-not-kind_ok.false, ← tables (goal.at.returns-in-Entries c).After-check_tables, n.1))
+    ∙ sym (checked-by d ∙ rw (← kind (goal.at.returns-in-Entries c).After-kind_ok, c.if-not-kind_ok.false, ← tables (goal.at.returns-in-Entries c).After-check_tables, n.1))
 
 pub returns-in-Broken : goal.returns-in-Broken
 unfolding answer_by
 returns-in-Broken c =
     let d = c.args.d.now in
     c.refused-in-Broken.ensures
-    ∙ sym (checked-by d ∙ rw (← kind (goal.at.returns-in-Broken c).After-kind_ok, not-false c.Kind-ok.result c.if-not-kind_ok.false, ← tables (goal.at.returns-in-Broken c).After-check_tables, c.in-Broken.is))
+    ∙ sym (checked-by d ∙ rw (← kind (goal.at.returns-in-Broken c).After-kind_ok, c.if-not-kind_ok.false, ← tables (goal.at.returns-in-Broken c).After-check_tables, c.in-Broken.is))

@@ -15,8 +15,8 @@ first-bytes c = c.first_bytes_ok.ensures ∙ ap (first_bytes_ok c.args.d.now) c.
 
 pub returns-then-not-first_bytes_ok : goal.returns-then-not-first_bytes_ok
 returns-then-not-first_bytes_ok c =
-    c.refused.ensures ∙ sym (checked-short c.args.d.now c.requires ∙ rw (← first-bytes (goal.at.returns-then-not-first_bytes_ok c).After-first_bytes_ok, not-true c.first_bytes_ok.result c.if-not-first_bytes_ok.true))
+    c.refused.ensures ∙ sym (checked-short c.args.d.now c.requires ∙ rw (← first-bytes (goal.at.returns-then-not-first_bytes_ok c).After-first_bytes_ok, c.if-not-first_bytes_ok.true))
 
 pub returns : goal.returns
 returns c =
-    c.refused-2.ensures ∙ sym (checked-short c.args.d.now c.requires ∙ rw (← first-bytes (goal.at.returns c).After-first_bytes_ok, not-false c.first_bytes_ok.result c.if-not-first_bytes_ok.false))
+    c.refused-2.ensures ∙ sym (checked-short c.args.d.now c.requires ∙ rw (← first-bytes (goal.at.returns c).After-first_bytes_ok, c.if-not-first_bytes_ok.false))

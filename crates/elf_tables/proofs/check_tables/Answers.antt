@@ -8,7 +8,7 @@ use Rattle.elf_tables.proofs.check_tables.Goals as goal
 pub returns-then-not-room_ok : goal.returns-then-not-room_ok
 returns-then-not-room_ok c =
     let r = c.room_ok in
-    sym (tables-by c.args.d.now c.args.f c.args.h c.args.table c.requires.0 ∙ rw (← r.ensures, not-true r.result c.if-not-room_ok.true))
+    sym (tables-by c.args.d.now c.args.f c.args.h c.args.table c.requires.0 ∙ rw (← r.ensures, c.if-not-room_ok.true))
 
 pub returns-then-not-names_linked : goal.returns-then-not-names_linked
 returns-then-not-names_linked c =
@@ -16,7 +16,7 @@ returns-then-not-names_linked c =
     let n = c.names_linked in
     sym
     (tables-by c.args.d.now c.args.f c.args.h c.args.table c.requires.0
-    ∙ rw (← r.ensures, not-false r.result c.if-not-room_ok.false, ← n.ensures, not-true n.result c.if-not-names_linked.true))
+    ∙ rw (← r.ensures, c.if-not-room_ok.false, ← n.ensures, c.if-not-names_linked.true))
 
 pub returns-then-not-symbol_table_fits : goal.returns-then-not-symbol_table_fits
 returns-then-not-symbol_table_fits c =
@@ -27,11 +27,11 @@ returns-then-not-symbol_table_fits c =
     (tables-by c.args.d.now c.args.f c.args.h c.args.table c.requires.0
     ∙ rw (
       ← r.ensures,
-      not-false r.result c.if-not-room_ok.false,
+      c.if-not-room_ok.false,
       ← n.ensures,
-      not-false n.result c.if-not-names_linked.false,
+      c.if-not-names_linked.false,
       ← t.ensures,
-      not-true t.result c.if-not-symbol_table_fits.true,
+      c.if-not-symbol_table_fits.true,
     ))
 
 pub returns : goal.returns
@@ -44,9 +44,9 @@ returns c =
     (tables-by c.args.d.now c.args.f c.args.h c.args.table c.requires.0
     ∙ rw (
       ← r.ensures,
-      not-false r.result c.if-not-room_ok.false,
+      c.if-not-room_ok.false,
       ← n.ensures,
-      not-false n.result c.if-not-names_linked.false,
+      c.if-not-names_linked.false,
       ← t.ensures,
-      not-false t.result c.if-not-symbol_table_fits.false,
+      c.if-not-symbol_table_fits.false,
     ))

@@ -21,7 +21,7 @@ use Rattle.elf_tables.proofs.count_relocations.Goals.{After-loop-i, Else-not-hea
 passes : (c : Else-not-header_ok) →
     let a = c.args in
     header_ok (length a.d.now) (header_in a.d.now a.h c.loop-i.i) ≡ true
-passes c = sym c.header_ok.ensures ∙ not-false c.header_ok.result c.if-not-header_ok.false
+passes c = sym c.header_ok.ensures ∙ c.if-not-header_ok.false
 
 fewer : (c : Else-not-header_ok) →
     let a = c.args in
@@ -67,14 +67,14 @@ returns-then-not-header_ok c =
     let a = c.args in
     sym
     (count-header a.d.now a.h a.table c.loop-i.i c.loop-i-test.true
-    (sym c.header_ok.ensures ∙ not-true c.header_ok.result c.if-not-header_ok.true))
+    (sym c.header_ok.ensures ∙ c.if-not-header_ok.true))
 
 pub returns-then-not-reloc_table_ok : goal.returns-then-not-reloc_table_ok
 returns-then-not-reloc_table_ok c =
     let a = c.args in
     sym
     (count-table a.d.now a.h a.table c.loop-i.i c.loop-i-test.true
-    (rw (← c.in_use.ensures, c.if-in_use.true, ← c.reloc_table_ok.ensures, not-true c.reloc_table_ok.result c.if-not-reloc_table_ok.true)))
+    (rw (← c.in_use.ensures, c.if-in_use.true, ← c.reloc_table_ok.ensures, c.if-not-reloc_table_ok.true)))
 
 pub overflow_add-n : goal.overflow_add-n
 overflow_add-n c =

@@ -25,7 +25,7 @@ returns-then-not-entry_ok c =
     sym
     (all-of-kept (used_by a.table) (entry_ok a.h.order) (sections_by a.d.now a.h)
     ∙ all-not (header_in a.d.now a.h) (used_ok a.table (entry_ok a.h.order)) a.h.sections c.loop-i.i c.loop-i-test.true
-    (rw (← c.in_use.ensures, c.if-in_use.true, ← c.entry_ok.ensures, not-true c.entry_ok.result c.if-not-entry_ok.true)))
+    (rw (← c.in_use.ensures, c.if-in_use.true, ← c.entry_ok.ensures, c.if-not-entry_ok.true)))
 
 pub loop-i-preserved : goal.loop-i-preserved
 loop-i-preserved c =

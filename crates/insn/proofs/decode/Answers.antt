@@ -8,6 +8,6 @@ use Rattle.insn.proofs.decode.Goals as goal
 pub returns : goal.returns
 unfolding instruction_of
 returns c =
-    let o = to_z-of_z {w = w16} {z = c.signed16-off.result} (record { sfits = c.signed16-off.type-inv }) in
-    let i = to_z-of_z {w = w32} {z = c.signed32-imm.result} (record { sfits = c.signed32-imm.type-inv }) in
+    let o = to_z-of_z {w = w16} {z = c.signed16-off.result} (record { sfits = c.signed16-off.type_inv }) in
+    let i = to_z-of_z {w = w32} {z = c.signed32-imm.result} (record { sfits = c.signed32-imm.type_inv }) in
     rw (o, i, c.signed16-off.ensures, c.signed32-imm.ensures, c.u16_of.ensures, c.u32_of.ensures)

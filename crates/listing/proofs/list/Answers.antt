@@ -26,29 +26,29 @@ returns-then-d-gt65536 c =
     let e : refusal_text c.too_long.result ≡ listing_of _ c.args.d.now = ap refusal_text c.too_long.ensures ∙ sym (long-text _ c.args.d.now c.if-d-gt65536.true) in
     let l = same_text e c.put_refusal.ensures in
     let h = rw e at (refusal-most c.too_long.result) in
-    (counted c.put_refusal.result c.put_refusal.new.0 l.within, whole-text (omega (arith, c.requires)) l)
+    (counted c.put_refusal.result c.put_refusal.new.out l.within, whole-text (omega (arith, c.requires)) l)
 
 pub put_answer-requires : goal.put_answer-requires
 put_answer-requires c =
     let a = c.args in
     let d : List ℕ = a.d.now in
-    let room : Room = flat_room a.sections-1.now a.programs-1.now a.functions-1.now a.maps-1.now a.relocations-1.now a.bytes-1.now in
+    let room : Room = flat_room a.sections.now a.programs.now a.functions.now a.maps.now a.relocations.now a.bytes.now in
     let o : Outcome = load_of d [] [] false room in
     let r : Answer = c.load_flat-answer.result in
-    let n : ℕ = length a.functions-1.now in
+    let n : ℕ = length a.functions.now in
     (omega arith, answer-fits (Input.deposit d) [] [] false room _ _ _ _ (flat-tables n o r _ _ _ _ _ _ c.load_flat-answer.ensures) r (flat-answer n o r _ _ _ _ _ _ c.load_flat-answer.ensures))
 
 pub returns : goal.returns
 returns c =
     let a = c.args in
     let d : List ℕ = a.d.now in
-    let room : Room = flat_room a.sections-1.now a.programs-1.now a.functions-1.now a.maps-1.now a.relocations-1.now a.bytes-1.now in
+    let room : Room = flat_room a.sections.now a.programs.now a.functions.now a.maps.now a.relocations.now a.bytes.now in
     let r : Answer = c.load_flat-answer.result in
     let o : Outcome = load_of d [] [] false room in
-    let n : ℕ = length a.functions-1.now in
+    let n : ℕ = length a.functions.now in
     let e : r ≡ o.reply = flat-answer n o r _ _ _ _ _ _ c.load_flat-answer.ensures in
     let t = answer-text (Input.deposit d) [] [] false room _ _ _ _ (flat-tables n o r _ _ _ _ _ _ c.load_flat-answer.ensures) r e ∙ sym (short-text room d c.if-d-gt65536.false) in
     let small : AllBytes d = all-bytes d (λ k. (c.shared_slice_known-1.given k).fits) in
     let m : length (listing_of room d) ≤ room.bytes-1 + 10 * room.programs-1 + 73 * room.functions-1 + 3 * room.maps-1 + 71 = rw (short-text room d c.if-d-gt65536.false) (text-most (Input.deposit d) [] [] false room small r e) in
     let l = same_text t c.put_answer.ensures in
-    (counted c.put_answer.result c.put_answer.new.0 l.within, whole-text (omega (arith, c.requires)) l)
+    (counted c.put_answer.result c.put_answer.new.out l.within, whole-text (omega (arith, c.requires)) l)

@@ -14,5 +14,5 @@ copy8-requires c = simp (length-take, length-drop) (omega arith)
 pub returns : goal.returns
 returns c =
     let a = c.args in
-    copied-laid a.at c.least-n.result a.s.now a.out-1.now (omega arith) (omega arith) c.copy8.new.0
+    copied-laid a.at c.least-n.result a.s.now a.out.now (omega arith) (omega arith) c.copy8.new.dst
     c.copy8.ensures

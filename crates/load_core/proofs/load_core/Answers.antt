@@ -29,7 +29,7 @@ returns-in-Refused c =
     let a = c.args in
     let q = c.opened-1.given in
     let k = c.refuse in
-    let room = lent_room (length a.sections-1.now) (length a.programs-1.now) a.rows (length a.maps-1.now) (length a.relocations-1.now) (length a.bytes-1.now) in
+    let room = lent_room (length a.sections.now) (length a.programs.now) a.rows (length a.maps.now) (length a.relocations.now) (length a.bytes.now) in
     refused-loads a.d.now a.t.now room k.new.1.0 k.new.1.1.0 k.new.1.1.1.0 k.new.1.1.1.1.0 k.new.1.1.1.1.1.0 [] q.0.0 _ k.result
     (ap (λ o. outcome_in room (verdict_in a.d.now a.t.now o a.entries.now a.patches.now a.rewrite)) q.1) k.ensures.0 k.ensures.1 k.ensures.2 k.ensures.3 k.ensures.4 k.ensures.5 a.symbols.now
 

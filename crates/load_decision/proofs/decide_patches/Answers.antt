@@ -32,7 +32,7 @@ by_name-requires c =
 pub maps_by_section-requires : goal.maps_by_section-requires
 maps_by_section-requires c =
     let a = c.args in
-    (c.requires.0, c.requires.2, omega (arith, c.requires.3), search rules, all-maps a.d.now a.t.now a.v a.n a.maps.now c.requires.2 a.by-1.now c.requires.0 c.requires.1 c.requires.4)
+    (c.requires.0, c.requires.2, omega (arith, c.requires.3), search rules, all-maps a.d.now a.t.now a.v a.n a.maps.now c.requires.2 a.by.now c.requires.0 c.requires.1 c.requires.4)
 
 -- as many bytes of a name as the longest one of the list has
 named : (c : After-longest_name-longest) (order : List ℕ)

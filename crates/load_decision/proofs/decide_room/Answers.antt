@@ -42,8 +42,8 @@ pub returns-then-not-fits : goal.returns-then-not-fits
 returns-then-not-fits c =
     let a = c.args in
     let k = c.put_relocation_rows-count in
-    let g : Fitted a.d.now a.t.now a.v a.room a.n (Decision.Refused c.too_small.result) a.sections.now a.programs.now a.functions.now a.maps.now = (c.too_small.ensures, fits-here (goal.at.returns-then-not-fits c).After-fits2 ∙ not-true c.fits2.result c.if-not-fits.true) in
-    (g, relocated a.d.now a.t.now a.v a.room a.n (Decision.Refused c.too_small.result) a.sections.now a.programs.now a.functions.now a.maps.now a.relocations-1.now _ k.result c.requires.0 g c.requires.5 k.ensures.0 k.ensures.2)
+    let g : Fitted a.d.now a.t.now a.v a.room a.n (Decision.Refused c.too_small.result) a.sections.now a.programs.now a.functions.now a.maps.now = (c.too_small.ensures, fits-here (goal.at.returns-then-not-fits c).After-fits2 ∙ c.if-not-fits.true) in
+    (g, relocated a.d.now a.t.now a.v a.room a.n (Decision.Refused c.too_small.result) a.sections.now a.programs.now a.functions.now a.maps.now a.relocations.now _ k.result c.requires.0 g c.requires.5 k.ensures.0 k.ensures.2)
 
 pub returns : goal.returns
 returns c =
@@ -53,10 +53,10 @@ returns c =
     let g : Planned a.d.now a.t.now a.v a.room plan a.sections.now a.programs.now a.functions.now a.maps.now =
     record {
       ok = c.requires.1;
-      fit = fits-here (goal.at.returns c).After-fits2 ∙ not-false c.fits2.result c.if-not-fits.false;
+      fit = fits-here (goal.at.returns c).After-fits2 ∙ c.if-not-fits.false;
       held = c.requires.2;
       count = count-here (goal.at.returns c).After-fits2;
       at = c.layout-places.ensures;
     }
     in
-    ((g, refl), relocated a.d.now a.t.now a.v a.room a.n (Decision.Accepted plan) _ _ _ _ a.relocations-1.now _ k.result c.requires.0 (g, refl) c.requires.5 k.ensures.0 k.ensures.2)
+    ((g, refl), relocated a.d.now a.t.now a.v a.room a.n (Decision.Accepted plan) _ _ _ _ a.relocations.now _ k.result c.requires.0 (g, refl) c.requires.5 k.ensures.0 k.ensures.2)

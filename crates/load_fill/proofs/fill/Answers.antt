@@ -26,6 +26,6 @@ returns c =
       c.fill_programs.ensures,
       c.fill_maps.ensures,
       c.clear_from.ensures
-          ∙ relocations-filled (catalogue a.d.now a.t.now a.v) a.relocations-1.now a.relocations-1.now a.plan.relocations g.count g.room-relocations g.stored,
+          ∙ relocations-filled (catalogue a.d.now a.t.now a.v) a.relocations.now a.relocations.now a.plan.relocations g.count g.room-relocations g.stored,
       c.fill_bytes.ensures,
     )

@@ -42,7 +42,7 @@ rewrite_code-requires c =
     let q = c.requires.3 in
     let k = catalogue a.d.now a.t.now a.v in
     let w = parts-inside k in
-    let l = behind-filled (bytes_of k) a.out-1.now a.places.end q.end c.requires.7 in
+    let l = behind-filled (bytes_of k) a.out.now a.places.end q.end c.requires.7 in
     let front = front-fit a.d.now a.t.now a.v c.requires.0 c.requires.1 a.functions.now a.n c.requires.4 c.requires.5 in
     let ends = code-ends a.d.now a.t.now a.v c.requires.0 c.requires.1 a.functions.now a.n c.requires.4 c.requires.5 in
     (c.requires.0, c.requires.4, front, omega (arith, q.code, q.maps, ends), omega (arith, q.maps, q.end, w.maps, c.patch_bytes.auto.1.1.1.1.1.1.1.1.1.1.0, l.2))
@@ -58,10 +58,10 @@ returns c =
     let ps = patches_of a.entries.now a.patches.now in
     let small : (i : ℕ) → byte_at d (gap_of a.v) i < 256 = λ i. omega (arith, c.shared_slice_known-1.given (place (gap_of a.v) i)) in
     let enc = functions-encoded d a.t.now a.v c.requires.0 c.requires.1 small in
-    let l = behind-filled (bytes_of k) a.out-1.now a.places.end q.end c.requires.7 in
+    let l = behind-filled (bytes_of k) a.out.now a.places.end q.end c.requires.7 in
     let e =
-    all_finished o ps a.rewrite k enc a.out-1.now a.out-1.now _ _ a.places.code a.places.maps a.places.own a.places.end q.code q.maps q.own q.end l.0
+    all_finished o ps a.rewrite k enc a.out.now a.out.now _ _ a.places.code a.places.maps a.places.own a.places.end q.code q.maps q.own q.end l.0
     c.patch_bytes.ensures c.rewrite_code.ensures
     in
     let n : a.places.end ≡ length (bytes_of (finish o ps a.rewrite k)) = q.end ∙ sym (long-done o ps a.rewrite k) in
-    e ∙ ap (λ (x : List ℕ). bytes_of (finish o ps a.rewrite k) ++ x) (l.1 ∙ ap (λ (m : ℕ). replicate (length a.out-1.now - m) 0) n)
+    e ∙ ap (λ (x : List ℕ). bytes_of (finish o ps a.rewrite k) ++ x) (l.1 ∙ ap (λ (m : ℕ). replicate (length a.out.now - m) 0) n)

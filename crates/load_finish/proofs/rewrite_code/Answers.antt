@@ -9,7 +9,7 @@ use Rattle.load_finish.proofs.rewrite_code.Goals as goal
 pub returns-then-on : goal.returns-then-on
 returns-then-on c =
     let a = c.args in
-    rewritten-to a.out-1.now _ a.start a.end a.on (code_at a.d.now a.t.now a.v) (take a.n a.functions.now) c.if-on.true c.requires.3
+    rewritten-to a.out.now _ a.start a.end a.on (code_at a.d.now a.t.now a.v) (take a.n a.functions.now) c.if-on.true c.requires.3
     c.rewrite_functions.ensures
 
 pub returns-else-on : goal.returns-else-on

@@ -47,8 +47,8 @@ loop-k-preserved c =
     let e = passed-eights a.d.now a.t.now a.v (take c.loop-k.k a.functions.now) a.start c.loop-k.at c.loop-k.invariant.1 in (
       omega arith,
       next-end f a.functions.now a.start c.loop-k.k c.loop-k.at c.loop-k.invariant.1 (c.loop-k.at + r.result) (omega arith) (ap (λ (n : ℕ). c.loop-k.at + n) r.ensures.0),
-      next-rewritten a.out-1.now a.start c.loop-k.at r.result (omega arith) (room (goal.at.loop-k-preserved c).After-code_length) e c.loop-k.out c.loop-k.invariant.2 (c.loop-k.at + r.result - c.loop-k.at)
-          c.sanitize_code.new.0 (omega arith) c.sanitize_code.ensures,
+      next-rewritten a.out.now a.start c.loop-k.at r.result (omega arith) (room (goal.at.loop-k-preserved c).After-code_length) e c.loop-k.out c.loop-k.invariant.2 (c.loop-k.at + r.result - c.loop-k.at)
+          c.sanitize_code.new.code (omega arith) c.sanitize_code.ensures,
     )
 
 pub shape_of-out : goal.shape_of-out

@@ -5,4 +5,4 @@ use Rattle.load_image.proofs.clear_bytes_from.Goals as goal
 
 pub returns : goal.returns
 returns c =
-    tail-cleared c.args.n c.args.t.now c.zero8.new.0 c.requires c.zero8.ensures
+    tail-cleared c.args.n c.args.t.now c.zero8.new.t c.requires c.zero8.ensures

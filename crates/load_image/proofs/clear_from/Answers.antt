@@ -5,4 +5,4 @@ use Rattle.load_image.proofs.clear_from.Goals as goal
 
 pub returns : goal.returns
 returns c =
-    tail-cleared c.args.n c.args.t.now c.zero64.new.0 c.requires c.zero64.ensures
+    tail-cleared c.args.n c.args.t.now c.zero64.new.t c.requires c.zero64.ensures

@@ -20,4 +20,4 @@ returns c =
     let q = c.requires.3 in
     c.clear_bytes_from.ensures
     ∙ ap (λ (l : List ℕ). cleared_from l a.places.end) (rw (← q.end) at c.put.ensures)
-    ∙ filled_is (bytes_of k) a.out-1.now a.places.end (sym q.end) (omega (arith, q.end, c.requires.4))
+    ∙ filled_is (bytes_of k) a.out.now a.places.end (sym q.end) (omega (arith, q.end, c.requires.4))

@@ -22,4 +22,4 @@ returns c =
     let a = c.args in
     c.clear_from.ensures
     ∙ ap (λ (t : List ℕ). cleared_from t (a.n * 27)) c.put_map_rows.ensures
-    ∙ maps-filled a.d.now a.t.now a.v a.n a.numbers.now c.requires.2 a.out-1.now c.requires.0 c.requires.1 a.places.maps a.places.own c.requires.4 c.requires.5.maps c.requires.5.own c.requires.6
+    ∙ maps-filled a.d.now a.t.now a.v a.n a.numbers.now c.requires.2 a.out.now c.requires.0 c.requires.1 a.places.maps a.places.own c.requires.4 c.requires.5.maps c.requires.5.own c.requires.6

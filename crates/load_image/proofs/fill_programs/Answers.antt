@@ -21,4 +21,4 @@ returns c =
     let a = c.args in
     c.clear_from.ensures
     ∙ ap (λ (t : List ℕ). cleared_from t (a.n * 7)) c.put_program_rows.ensures
-    ∙ programs-filled a.d.now a.t.now a.v a.n a.numbers.now c.requires.2 a.out-1.now c.requires.0 c.requires.1 a.places.programs c.requires.4 c.requires.5.programs c.requires.6
+    ∙ programs-filled a.d.now a.t.now a.v a.n a.numbers.now c.requires.2 a.out.now c.requires.0 c.requires.1 a.places.programs c.requires.4 c.requires.5.programs c.requires.6

@@ -21,4 +21,4 @@ returns c =
     let a = c.args in
     c.clear_from.ensures
     ∙ ap (λ (t : List ℕ). cleared_from t (a.n * 4)) c.put_section_rows.ensures
-    ∙ sections-filled a.d.now a.t.now a.v a.n a.numbers.now c.requires.0 a.out-1.now a.places.sections c.requires.2 c.requires.3.sections c.requires.4
+    ∙ sections-filled a.d.now a.t.now a.v a.n a.numbers.now c.requires.0 a.out.now a.places.sections c.requires.2 c.requires.3.sections c.requires.4

@@ -16,6 +16,6 @@ pub returns : goal.returns
 returns c =
     let a = c.args in
     c.load_flat_opened.ensures
-    ∙ ap (flat_of (length a.functions-1.now))
+    ∙ ap (flat_of (length a.functions.now))
     (deposit-loads a.d.now [] c.«open».result c.«open».ensures a.entries.now a.patches.now a.rewrite
-    (flat_room a.sections-1.now a.programs-1.now a.functions-1.now a.maps-1.now a.relocations-1.now a.bytes-1.now))
+    (flat_room a.sections.now a.programs.now a.functions.now a.maps.now a.relocations.now a.bytes.now))

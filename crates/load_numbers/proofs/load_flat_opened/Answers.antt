@@ -19,8 +19,8 @@ returns c =
     let f = c.fill_rows in
     let k = c.load_core-loaded in
     let a = c.args in
-    flat-done (length a.functions-1.now)
-    (outcome_in (flat_room a.sections-1.now a.programs-1.now a.functions-1.now a.maps-1.now a.relocations-1.now a.bytes-1.now)
+    flat-done (length a.functions.now)
+    (outcome_in (flat_room a.sections.now a.programs.now a.functions.now a.maps.now a.relocations.now a.bytes.now)
     (verdict_in a.d.now a.t.now a.opened a.entries.now a.patches.now a.rewrite))
     k.result.answer k.new.1.1.1.1.1.1.1.0 k.new.1.1.1.1.1.1.1.1.0 f.new.0 k.new.1.1.1.1.1.1.1.1.1.0 k.new.1.1.1.1.1.1.1.1.1.1.0 k.new.1.1.1.1.1.1.1.1.1.1.1.0
-    (rows_made a.d.now a.t.now k.new.1.1.1.1.1.1.1.1.1.1.1.1.0 0 k.result.rows (rows_in (length a.functions-1.now))) f.ensures k.ensures.0
+    (rows_made a.d.now a.t.now k.new.1.1.1.1.1.1.1.1.1.1.1.1.0 0 k.result.rows (rows_in (length a.functions.now))) f.ensures k.ensures.0

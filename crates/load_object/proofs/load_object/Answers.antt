@@ -54,11 +54,11 @@ shape_of-b-in-Refused c = c.parse.auto.1.1.1.1.1.1.1.1.0
 pub returns-in-Refused : goal.returns-in-Refused
 returns-in-Refused c =
     let a = c.args in
-    let room = lent_room (length a.sections-1.now) (length a.programs-1.now) a.rows (length a.maps-1.now) (length a.relocations-1.now) (length a.bytes-1.now) in
+    let room = lent_room (length a.sections.now) (length a.programs.now) a.rows (length a.maps.now) (length a.relocations.now) (length a.bytes.now) in
     let q = c.r-1.given in
     let k = c.refuse.ensures in
     let e = rw q.1 at c.parse.ensures in
-    refused-loads a.d.now a.t.now room _ _ _ _ _ c.parse.new.1.1.1.1.1.0 q.0.0 _ _
+    refused-loads a.d.now a.t.now room _ _ _ _ _ c.parse.new.functions q.0.0 _ _
     (back-object room (object_in a.d.now a.t.now a.v) (patches_of a.entries.now a.patches.now) q.0.0 (numbers-refused a.d.now a.t.now a.v _ _ _ _ q.0.0 e) a.rewrite)
     k.0 k.1 k.2 k.3 k.4 k.5
 

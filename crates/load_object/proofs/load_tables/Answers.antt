@@ -35,10 +35,10 @@ decide_patches-checked-requires c =
     )
 
 -- the first array has its length still, and its front is as long as there are symbols
-first-long : (c : After-decide_patches-checked) → length (c.decide_patches-checked.new.1.1.1.1.1.1.1.0 ++ drop (c.size-y.result - 0) c.decide_room-decision.new.1.1.1.1.1.1.1.1.1.0) ≡ length c.args.a.now
-first-long c = length_front c.decide_room-decision.new.1.1.1.1.1.1.1.1.1.0 c.decide_patches-checked.new.1.1.1.1.1.1.1.0 (c.size-y.result - 0) c.decide_patches-checked.auto.1.1.1.1.1.1.1.0 ∙ c.decide_room-decision.auto.1.1.1.1.1.1.1.1.1.0
+first-long : (c : After-decide_patches-checked) → length (c.decide_patches-checked.new.symbols ++ drop (c.size-y.result - 0) c.decide_room-decision.new.numbers) ≡ length c.args.a.now
+first-long c = length_front c.decide_room-decision.new.numbers c.decide_patches-checked.new.symbols (c.size-y.result - 0) c.decide_patches-checked.auto.1.1.1.1.1.1.1.0 ∙ c.decide_room-decision.auto.1.1.1.1.1.1.1.1.1.0
 
-front_long : (c : After-decide_patches-checked) → length c.decide_patches-checked.new.1.1.1.1.1.1.1.0 ≡ c.args.v.symbols
+front_long : (c : After-decide_patches-checked) → length c.decide_patches-checked.new.symbols ≡ c.args.v.symbols
 front_long c =
     let k = c.decide_room-decision in
     c.decide_patches-checked.auto.1.1.1.1.1.1.1.0 ∙ lent_length k.new.1.1.1.1.1.1.1.1.1.0 _ _ c.size-y.ensures.0 (omega (arith, k.auto.1.1.1.1.1.1.1.1.1.0, c.requires.3))
@@ -61,7 +61,7 @@ returns-in-Refused c =
     let a = c.args in
     let o = object_in a.d.now a.t.now a.v in
     let ps = patches_of a.entries.now a.patches.now in
-    let room = lent_room (length a.sections-1.now) (length a.programs-1.now) a.rows (length a.maps-1.now) (length a.relocations-1.now) (length a.bytes-1.now) in
+    let room = lent_room (length a.sections.now) (length a.programs.now) a.rows (length a.maps.now) (length a.relocations.now) (length a.bytes.now) in
     let q = c.checked-1.given in
     let k = c.refuse.ensures in
     refused-loads a.d.now a.t.now room _ _ _ _ _ a.f.now q.0.0 _ _
@@ -75,15 +75,15 @@ pub fill_and_finish-requires : goal.fill_and_finish-requires
 fill_and_finish-requires c =
     let a = c.args in
     let d = a.d.now in
-    let room = lent_room (length a.sections.now) (length a.programs.now) a.rows (length a.maps.now) (length a.relocations-1.now) (length a.bytes.now) in
+    let room = lent_room (length a.sections.now) (length a.programs.now) a.rows (length a.maps.now) (length a.relocations.now) (length a.bytes.now) in
     let q = c.decision-in-Accepted-1.given in
     let k = c.decide_room-decision in
     let g = rw q.1 at k.ensures.0 in
     let y : c.size-y.result - 0 ≡ a.v.symbols = omega (arith, c.size-y.ensures.0) in (
-      fillable d a.t.now a.v room q.0.0 a.s.now a.p.now a.f.now a.m.now c.requires.0 g.0 _ _ _ _ _ a.relocations-1.now refl refl refl (sym k.auto.1.1.1.1.1.1.1.1.1.1.1.0) refl (omega (arith, c.well-formed.1.1.1.1.1.1.1.1.1.1.1.0))
+      fillable d a.t.now a.v room q.0.0 a.s.now a.p.now a.f.now a.m.now c.requires.0 g.0 _ _ _ _ _ a.relocations.now refl refl refl (sym k.auto.1.1.1.1.1.1.1.1.1.1.1.0) refl (omega (arith, c.well-formed.1.1.1.1.1.1.1.1.1.1.1.0))
           (k.ensures.1 q.0.0 q.1),
       patches-fine (goal.at.fill_and_finish-requires c).In_default,
-      rw (y, g.1) (ready-part d a.t.now a.v a.entries.now a.m.now a.n.maps c.decide_patches-checked.new.1.1.1.1.1.1.1.0 _ _ (front_long (goal.at.fill_and_finish-requires c).After-decide_patches-checked) c.decide_patches-checked.ensures.1),
+      rw (y, g.1) (ready-part d a.t.now a.v a.entries.now a.m.now a.n.maps c.decide_patches-checked.new.symbols _ _ (front_long (goal.at.fill_and_finish-requires c).After-decide_patches-checked) c.decide_patches-checked.ensures.1),
     )
 
 pub shape_of-relocations-in-Refused-decision : goal.shape_of-relocations-in-Refused-decision
@@ -100,7 +100,7 @@ returns-in-Refused-decision c =
     let a = c.args in
     let o = object_in a.d.now a.t.now a.v in
     let ps = patches_of a.entries.now a.patches.now in
-    let room = lent_room (length a.sections.now) (length a.programs.now) a.rows (length a.maps.now) (length a.relocations-1.now) (length a.bytes.now) in
+    let room = lent_room (length a.sections.now) (length a.programs.now) a.rows (length a.maps.now) (length a.relocations.now) (length a.bytes.now) in
     let q = c.decision-1.given in
     let k = c.refuse-in-Refused-decision.ensures in
     let w = rw q.1 at c.decide_room-decision.ensures.0 in
@@ -120,7 +120,7 @@ shape_of-b-in-Accepted c = c.decide_patches-checked.auto.1.1.1.1.1.1.1.1.0 ∙ c
 pub returns-in-Accepted : goal.returns-in-Accepted
 returns-in-Accepted c =
     let a = c.args in
-    let room = lent_room (length a.sections.now) (length a.programs.now) a.rows (length a.maps.now) (length a.relocations-1.now) (length a.bytes.now) in
+    let room = lent_room (length a.sections.now) (length a.programs.now) a.rows (length a.maps.now) (length a.relocations.now) (length a.bytes.now) in
     let q = c.decision-in-Accepted-1.given in
     let g = rw q.1 at c.decide_room-decision.ensures.0 in
     let k = c.fill_and_finish.ensures in

@@ -21,12 +21,12 @@ loop-k-init c =
 -- the byte that was read
 read : (c : After-byte)
     → (let a = c.args in
-    c.byte.result ≡ get_or (bytes_at a.d.now a.gap a.at (length a.word.now)) c.loop-k.k 0)
+    c.byte.result ≡ get_or (bytes_at a.d.now a.gap a.at (length a.word.now)) c.loop.k 0)
 read c =
     let a = c.args in
     c.byte.ensures
-    ∙ run-byte a.d.now a.gap (a.at + c.loop-k.k) c.loop-k.run c.loop-k.invariant.1
-    ∙ sym (get_or-bytes a.d.now a.gap a.at (length a.word.now) c.loop-k.k (omega arith))
+    ∙ run-byte a.d.now a.gap (a.at + c.loop.k) c.loop.run c.loop.invariant.1
+    ∙ sym (get_or-bytes a.d.now a.gap a.at (length a.word.now) c.loop.k (omega arith))
 
 pub returns-then-byte-word : goal.returns-then-byte-word
 returns-then-byte-word c =

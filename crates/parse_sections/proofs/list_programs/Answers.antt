@@ -22,7 +22,7 @@ returns-in-Program c =
     let n : length xs ≡ a.n - a.w = length-slice a.w a.n a.functions.now c.requires.1 in
     let q = c.copy.ensures ∙ part_slice a.w a.n a.functions.now c.requires.0 c.requires.1 in
     rw c.in-Program.is
-    (copied a.at end xs a.out-1.now _ (rw n) (ap (λ y. take a.at a.out-1.now ++ (y ++ drop (end - a.at) (drop a.at a.out-1.now))) q))
+    (copied a.at end xs a.out.now _ (rw n) (ap (λ y. take a.at a.out.now ++ (y ++ drop (end - a.at) (drop a.at a.out.now))) q))
 
 pub returns-in_default : goal.returns-in_default
 unfolding program_numbers_of

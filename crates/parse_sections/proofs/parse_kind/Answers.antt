@@ -13,7 +13,7 @@ use Rattle.parse_sections.proofs.parse_kind.Goals as goal
 pub returns-in-Program : goal.returns-in-Program
 returns-in-Program c =
     let a = c.args in
-    kind-program a.d.now a.t.now a.v a.s a.functions-1.now a.w c.parse_programs.result _ (sym c.requires.6 ∙ c.in-Program.is)
+    kind-program a.d.now a.t.now a.v a.s a.functions.now a.w c.parse_programs.result _ (sym c.requires.6 ∙ c.in-Program.is)
     c.parse_programs.ensures
 
 pub returns-in-Maps : goal.returns-in-Maps

@@ -11,14 +11,14 @@ use borrow.Author.Rules.{rules}
 use Rattle.parse_sections.proofs.parse_object.Goals as goal
 use Rattle.parse_sections.proofs.parse_object.Goals.{After-by_section, After-next_untargeted}
 
-next_known : (c : After-next_untargeted) → (let a = c.args in NextOf a.d.now a.t.now a.v c.next_untargeted.new.1.1.1.0)
+next_known : (c : After-next_untargeted) → (let a = c.args in NextOf a.d.now a.t.now a.v c.next_untargeted.new.next)
 next_known c =
     let a = c.args in
     rw c.next_untargeted.ensures (next_of a.d.now a.t.now a.v a.next.now c.requires.0)
 
 -- the programs' list is as long as it was
-programs-long : (c : After-by_section) → (length (c.by_section.new.1.1.1.1.0 ++ drop (c.size-y.result - 0) c.args.programs.now) ≡ length c.args.programs.now)
-programs-long c = length_front c.args.programs.now c.by_section.new.1.1.1.1.0 (c.size-y.result - 0) c.by_section.auto.1.1.1.1.0
+programs-long : (c : After-by_section) → (length (c.by_section.new.tmp ++ drop (c.size-y.result - 0) c.args.programs.now) ≡ length c.args.programs.now)
+programs-long c = length_front c.args.programs.now c.by_section.new.tmp (c.size-y.result - 0) c.by_section.auto.1.1.1.1.0
 
 pub license_refusal-requires : goal.license_refusal-requires
 license_refusal-requires c =

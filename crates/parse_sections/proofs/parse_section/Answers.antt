@@ -26,5 +26,5 @@ returns c =
     let a = c.args in
     let k = sym (c.is_btf_ext.ensures ∙ ap (is_kind Kind.BtfExt) c.requires.6) in
     let r = reaches-untargeted a.d.now a.t.now a.v a.next.now a.s c.requires.7 c.requires.8 in
-    section-kind a.d.now a.t.now a.v a.s a.functions-1.now a.w c.parse_kind.result _ (k ∙ c.if-is_btf_ext.false)
+    section-kind a.d.now a.t.now a.v a.s a.functions.now a.w c.parse_kind.result _ (k ∙ c.if-is_btf_ext.false)
     (sym (c.untargeted.ensures ∙ r) ∙ c.if-untargeted.false) c.parse_kind.ensures

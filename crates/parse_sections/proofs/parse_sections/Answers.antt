@@ -125,23 +125,23 @@ parse_section-requires c =
 -- the lists that a part was lent of, as long as they were
 programs-kept : (c : After-parse_section) →
     let lo = c.Group-of.result.lo in
-    length (take lo c.loop-i.programs ++ (c.parse_section.new.1.1.1.1.1.1.1.1.1.0 ++ drop (c.Group-of.result.hi - lo) (drop lo c.loop-i.programs))) ≡ length c.args.programs.now
+    length (take lo c.loop-i.programs ++ (c.parse_section.new.group ++ drop (c.Group-of.result.hi - lo) (drop lo c.loop-i.programs))) ≡ length c.args.programs.now
 programs-kept c =
-    length-part-back c.Group-of.result.lo (c.Group-of.result.hi - c.Group-of.result.lo) c.loop-i.programs c.parse_section.new.1.1.1.1.1.1.1.1.1.0 c.parse_section.auto.1.1.1.1.1.1.1.1.1.0 ∙ c.loop-i.invariant.2
+    length-part-back c.Group-of.result.lo (c.Group-of.result.hi - c.Group-of.result.lo) c.loop-i.programs c.parse_section.new.group c.parse_section.auto.1.1.1.1.1.1.1.1.1.0 ∙ c.loop-i.invariant.2
 
 functions-kept : (c : After-parse_section) →
-    length (c.parse_section.new.1.1.1.1.1.1.1.1.1.1.1.0 ++ drop (c.Group-of.result.hi - 0) c.loop-i.functions) ≡ length c.args.functions.now
+    length (c.parse_section.new.functions ++ drop (c.Group-of.result.hi - 0) c.loop-i.functions) ≡ length c.args.functions.now
 functions-kept c =
-    length_front c.loop-i.functions c.parse_section.new.1.1.1.1.1.1.1.1.1.1.1.0 (c.Group-of.result.hi - 0) c.parse_section.auto.1.1.1.1.1.1.1.1.1.1.1.0 ∙ c.loop-i.invariant.3
+    length_front c.loop-i.functions c.parse_section.new.functions (c.Group-of.result.hi - 0) c.parse_section.auto.1.1.1.1.1.1.1.1.1.1.1.0 ∙ c.loop-i.invariant.3
 
 maps-kept : (c : After-parse_section) →
     let count = c.size-count.result in
     let k = count + c.Group-of.result.lo in
-    length (take k c.loop-i.maps ++ (c.parse_section.new.1.1.1.1.1.1.1.1.1.1.0 ++ drop (count + c.Group-of.result.hi - k) (drop k c.loop-i.maps))) ≡ length c.args.maps.now
+    length (take k c.loop-i.maps ++ (c.parse_section.new.tmp ++ drop (count + c.Group-of.result.hi - k) (drop k c.loop-i.maps))) ≡ length c.args.maps.now
 maps-kept c =
     let count = c.size-count.result in
     let k = count + c.Group-of.result.lo in
-    length-part-back k (count + c.Group-of.result.hi - k) c.loop-i.maps c.parse_section.new.1.1.1.1.1.1.1.1.1.1.0 c.parse_section.auto.1.1.1.1.1.1.1.1.1.1.0 ∙ c.loop-i.invariant.4
+    length-part-back k (count + c.Group-of.result.hi - k) c.loop-i.maps c.parse_section.new.tmp c.parse_section.auto.1.1.1.1.1.1.1.1.1.1.0 ∙ c.loop-i.invariant.4
 
 -- what is listed stands in them still
 going-here : (c : After-parse_section) →
@@ -149,8 +149,8 @@ going-here : (c : After-parse_section) →
     let lo = c.Group-of.result.lo in
     let hi = c.Group-of.result.hi in
     let count = c.size-count.result in
-    Going a.d.now a.t.now a.v a.symbols.now c.loop-i.sections (take lo c.loop-i.programs ++ (c.parse_section.new.1.1.1.1.1.1.1.1.1.0 ++ drop (hi - lo) (drop lo c.loop-i.programs))) c.loop-i.functions
-    (take (count + lo) c.loop-i.maps ++ (c.parse_section.new.1.1.1.1.1.1.1.1.1.1.0 ++ drop (count + hi - (count + lo)) (drop (count + lo) c.loop-i.maps))) c.i-1.given.0.0 c.loop-i.from c.loop-i.n
+    Going a.d.now a.t.now a.v a.symbols.now c.loop-i.sections (take lo c.loop-i.programs ++ (c.parse_section.new.group ++ drop (hi - lo) (drop lo c.loop-i.programs))) c.loop-i.functions
+    (take (count + lo) c.loop-i.maps ++ (c.parse_section.new.tmp ++ drop (count + hi - (count + lo)) (drop (count + lo) c.loop-i.maps))) c.i-1.given.0.0 c.loop-i.from c.loop-i.n
 going-here c =
     let a = c.args in
     let lo = c.Group-of.result.lo in
@@ -181,7 +181,7 @@ returns-in-Refused c =
 -- the section is passed
 ahead : (c : In-Functions-2) →
     let a = c.args in
-    SectionAhead a.d.now a.t.now a.v a.symbols.now (c.parse_section.new.1.1.1.1.1.1.1.1.1.1.1.0 ++ drop (c.Group-of.result.hi - 0) c.loop-i.functions) c.i-1.given.0.0 c.Group-of.result.hi c.loop-i.n.functions c.m-1.given.0.0
+    SectionAhead a.d.now a.t.now a.v a.symbols.now (c.parse_section.new.functions ++ drop (c.Group-of.result.hi - 0) c.loop-i.functions) c.i-1.given.0.0 c.Group-of.result.hi c.loop-i.n.functions c.m-1.given.0.0
 ahead c =
     let a = c.args in
     going-ahead a.d.now a.t.now a.v a.symbols.now c.loop-i.sections c.loop-i.programs c.loop-i.functions c.loop-i.maps c.i-1.given.0.0 c.loop-i.from c.loop-i.n (here c) c.requires.1

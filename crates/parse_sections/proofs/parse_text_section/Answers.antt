@@ -14,4 +14,4 @@ parse_text_section-requires c =
 pub returns : goal.returns
 returns c =
     let a = c.args in
-    answers-text a.d.now a.t.now a.v a.s a.functions-1.now a.w c.parse_text_section.result _ c.parse_text_section.ensures
+    answers-text a.d.now a.t.now a.v a.s a.functions.now a.w c.parse_text_section.result _ c.parse_text_section.ensures

@@ -19,7 +19,7 @@ pub number_tables-counts-requires : goal.number_tables-counts-requires
 number_tables-counts-requires c =
     (
       rw c.in-Numbers.is at c.parse_object-listed.ensures,
-      rw (length_front c.args.symbols.now c.parse_object-listed.new.1.1.1.1.0 (c.size-y.result - 0) c.parse_object-listed.auto.1.1.1.1.0) c.requires.4,
+      rw (length_front c.args.symbols.now c.parse_object-listed.new.symbols (c.size-y.result - 0) c.parse_object-listed.auto.1.1.1.1.0) c.requires.4,
     )
 
 pub returns-in-Refused : goal.returns-in-Refused
@@ -29,7 +29,7 @@ returns-in-Refused c =
 
 pub shape_of-symbols-in-Numbers : goal.shape_of-symbols-in-Numbers
 shape_of-symbols-in-Numbers c =
-    c.number_tables-counts.auto.1.1.1.1.1.1.1.0 ∙ length_front c.args.symbols.now c.parse_object-listed.new.1.1.1.1.0 (c.size-y.result - 0) c.parse_object-listed.auto.1.1.1.1.0
+    c.number_tables-counts.auto.1.1.1.1.1.1.1.0 ∙ length_front c.args.symbols.now c.parse_object-listed.new.symbols (c.size-y.result - 0) c.parse_object-listed.auto.1.1.1.1.0
 
 pub shape_of-next-in-Numbers : goal.shape_of-next-in-Numbers
 shape_of-next-in-Numbers c = c.parse_object-listed.auto.1.1.1.0

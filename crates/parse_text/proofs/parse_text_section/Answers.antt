@@ -18,5 +18,5 @@ returns-in-At c =
 pub returns-in-Nothing : goal.returns-in-Nothing
 returns-in-Nothing c =
     let a = c.args in
-    parsed-walk a.d.now a.t.now a.v a.s a.symbols.now a.lo a.hi c.requires.1 c.symbol_table_conflict.result a.out-1.now a.w c.walk.result c.walk.new.1.1.1.1.1.1.1.0
+    parsed-walk a.d.now a.t.now a.v a.s a.symbols.now a.lo a.hi c.requires.1 c.symbol_table_conflict.result a.out.now a.w c.walk.result c.walk.new.out
     c.symbol_table_conflict.ensures c.in-Nothing.is c.walk.ensures

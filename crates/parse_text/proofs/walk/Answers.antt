@@ -98,11 +98,11 @@ loop-k-preserved c =
     )
 
 found : (c : Then-y-address)
-    → (let a = c.args in number_from a.d.now a.t.now a.v a.s c.loop-offset.offset ≡ some (get_or a.symbols.now c.loop-k.k 0))
+    → (let a = c.args in number_from a.d.now a.t.now a.v a.s c.loop.offset ≡ some (get_or a.symbols.now c.loop-k.k 0))
 found c =
     let a = c.args in
-    number-found a.d.now a.t.now a.v a.s c.loop-offset.offset (some (get_or a.symbols.now c.loop-k.k 0)) (reached c)
-    (search-met a.d.now a.t.now a.v a.s a.symbols.now c.loop-k.k a.hi (a.s.address + c.loop-offset.offset)
+    number-found a.d.now a.t.now a.v a.s c.loop.offset (some (get_or a.symbols.now c.loop-k.k 0)) (reached c)
+    (search-met a.d.now a.t.now a.v a.s a.symbols.now c.loop-k.k a.hi (a.s.address + c.loop.offset)
     c.if-k-hi.false c.requires.0.1 c.symbol-y.result c.symbol-y.ensures (text c) c.loop-k.invariant.2 c.if-y-address.true)
 
 pub invalid_symbol-requires : goal.invalid_symbol-requires

@@ -21,7 +21,7 @@ pub returns-then-not-is_lent : goal.returns-then-not-is_lent
 returns-then-not-is_lent c =
     let a = c.args in
     c.of_entry.ensures
-    ∙ ap checked_of (sym (not-inside a.d.now a.t.now a.v (maps_of_numbers a.d.now a.t.now a.v a.maps.now a.n) a.e (patch_by a.patches.now a.x) (sym c.is_lent.ensures ∙ not-true _ c.if-not-is_lent.true)))
+    ∙ ap checked_of (sym (not-inside a.d.now a.t.now a.v (maps_of_numbers a.d.now a.t.now a.v a.maps.now a.n) a.e (patch_by a.patches.now a.x) (sym c.is_lent.ensures ∙ c.if-not-is_lent.true)))
 
 pub returns-then-x-gt1 : goal.returns-then-x-gt1
 unfolding patch_by
@@ -31,7 +31,7 @@ returns-then-x-gt1 c =
     ∙ ap checked_of (sym (other-mark a.d.now a.t.now a.v (maps_of_numbers a.d.now a.t.now a.v a.maps.now a.n) a.e (patch_by a.patches.now a.x) (omega arith)))
 
 lent : (c : Else-not-is_lent) → (patch_by c.args.patches.now c.args.x).inside ≡ true
-lent c = sym c.is_lent.ensures ∙ not-false _ c.if-not-is_lent.false
+lent c = sym c.is_lent.ensures ∙ c.if-not-is_lent.false
 
 pub overflow_add-end : goal.overflow_add-end
 overflow_add-end c = let a = c.args in omega (arith, (lent-ranges a.patches.now a.x (lent (goal.at.overflow_add-end c).Else-not-is_lent)).0)

@@ -10,20 +10,20 @@ use Rattle.patch_checks.proofs.is_lent.Goals as goal
 
 pub returns-then-not-x : goal.returns-then-not-x
 unfolding patch_by
-returns-then-not-x c = let w : c.args.x.whole ≡ false = not-true _ c.if-not-x.true in rw w
+returns-then-not-x c = let w : c.args.x.whole ≡ false = c.if-not-x.true in rw w
 
 pub returns-then-not-lies_inside : goal.returns-then-not-lies_inside
 unfolding patch_by
 returns-then-not-lies_inside c =
     let a = c.args in
-    let w : a.x.whole ≡ true = not-false _ c.if-not-x.false in
-    let v : inside a.x.name.at a.x.name.length (length a.patches.now) ≡ false = sym c.lies_inside.ensures ∙ not-true _ c.if-not-lies_inside.true in
+    let w : a.x.whole ≡ true = c.if-not-x.false in
+    let v : inside a.x.name.at a.x.name.length (length a.patches.now) ≡ false = sym c.lies_inside.ensures ∙ c.if-not-lies_inside.true in
     rw (w, v)
 
 pub returns : goal.returns
 unfolding patch_by
 returns c =
     let a = c.args in
-    let w : a.x.whole ≡ true = not-false _ c.if-not-x.false in
-    let v : inside a.x.name.at a.x.name.length (length a.patches.now) ≡ true = sym c.lies_inside.ensures ∙ not-false _ c.if-not-lies_inside.false in
+    let w : a.x.whole ≡ true = c.if-not-x.false in
+    let v : inside a.x.name.at a.x.name.length (length a.patches.now) ≡ true = sym c.lies_inside.ensures ∙ c.if-not-lies_inside.false in
     rw (w, v) c.lies_inside-2.ensures

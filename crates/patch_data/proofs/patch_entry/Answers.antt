@@ -98,7 +98,7 @@ returns-in-One c =
     let x = c.entry_at-x.result in
     c.patch_symbol.ensures
     ∙ after_one a.d.now a.t.now a.v a.entries.now a.patches.now ns n a.e a.by.now c.requires.0.sited a.own a.rows.now c.requires.0.placed (accepted (goal.at.returns-in-One c).Start)
-    _ (sym c.in-One.is ∙ bearer (goal.at.returns-in-One c).After-bearer_of) c.symbol-y.result a.bytes-1.now (part a.patches.now x.bytes-1.at x.bytes-1.length) c.symbol-y.ensures c.requires.3 (given (goal.at.returns-in-One c).After-entry_at-x)
+    _ (sym c.in-One.is ∙ bearer (goal.at.returns-in-One c).After-bearer_of) c.symbol-y.result a.bytes.now (part a.patches.now x.bytes-1.at x.bytes-1.length) c.symbol-y.ensures c.requires.3 (given (goal.at.returns-in-One c).After-entry_at-x)
     (alone a.d.now a.t.now a.v c.requires.0.sited.readable)
 
 pub returns-in-Several : goal.returns-in-Several

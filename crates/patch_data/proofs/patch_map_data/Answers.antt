@@ -11,7 +11,7 @@ use Rattle.patch_data.proofs.patch_map_data.Goals as goal
 pub returns : goal.returns
 returns c =
     let a = c.args in
-    let b = a.bytes-1.now in
+    let b = a.bytes.now in
     let e : a.own + (a.end - a.own) ≡ a.end = omega arith in
     ap (λ (ys : List ℕ). take a.own b ++ (ys ++ drop (a.end - a.own) (drop a.own b))) c.patch_own.ensures
     ∙ rw (drop-drop (a.end - a.own) a.own b, e)

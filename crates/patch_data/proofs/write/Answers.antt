@@ -13,7 +13,7 @@ use Rattle.patch_data.proofs.write.Goals as goal
 pub returns : goal.returns
 returns c =
     let a = c.args in
-    let b = a.bytes-1.now in
+    let b = a.bytes.now in
     let e : a.at + a.len - a.at ≡ a.len = omega arith in
     let f : a.from + a.len - a.from ≡ a.len = omega arith in
     ap (λ (ys : List ℕ). take a.at b ++ (ys ++ drop (a.at + a.len - a.at) (drop a.at b))) c.copy8.ensures

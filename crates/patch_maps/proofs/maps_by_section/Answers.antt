@@ -12,7 +12,7 @@ use Rattle.patch_maps.proofs.maps_by_section.Goals.{After-size-i}
 pub loop-k-init : goal.loop-k-init
 loop-k-init c =
     let a = c.args in
-    (omega arith, refl, places-start a.d.now a.t.now a.v a.maps.now a.n c.clear.new.0 a.by-1.now c.size.result c.size.ensures.0 c.clear.ensures)
+    (omega arith, refl, places-start a.d.now a.t.now a.v a.maps.now a.n c.clear.new.by a.by.now c.size.result c.size.ensures.0 c.clear.ensures)
 
 home : (c : After-size-i) → (let a = c.args in c.size-i.result ≡ map_home a.d.now a.t.now a.v (get_or a.maps.now (c.loop-k.k - 1) 0))
 home c = c.size-i.ensures.0 ∙ c.map_home.ensures
@@ -30,7 +30,7 @@ loop-k-preserved c =
     let e : l.k - 1 + 1 ≡ l.k = omega arith in (
       omega arith,
       rw length-set l.invariant.1,
-      rw (home (goal.at.loop-k-preserved c).After-size-i, l.invariant.2) (rw e at (places-more a.d.now a.t.now a.v a.maps.now a.n (l.k - 1) (drop a.v.sections c.clear.new.0) (omega arith) (omega arith) (below (goal.at.loop-k-preserved c).After-size-i))),
+      rw (home (goal.at.loop-k-preserved c).After-size-i, l.invariant.2) (rw e at (places-more a.d.now a.t.now a.v a.maps.now a.n (l.k - 1) (drop a.v.sections c.clear.new.by) (omega arith) (omega arith) (below (goal.at.loop-k-preserved c).After-size-i))),
     )
 
 pub returns : goal.returns
@@ -39,4 +39,4 @@ returns c =
     let l = c.loop-k in
     let z : l.k ≡ 0 = omega arith in
     l.invariant.2
-    ∙ rw (z, places-all a.d.now a.t.now a.v a.maps.now a.n, cleared a.v.sections c.clear.new.0 a.by-1.now c.size.result c.size.ensures.0 c.clear.ensures)
+    ∙ rw (z, places-all a.d.now a.t.now a.v a.maps.now a.n, cleared a.v.sections c.clear.new.by a.by.now c.size.result c.size.ensures.0 c.clear.ensures)

@@ -16,22 +16,22 @@ pub returns-then-not-bears_at : goal.returns-then-not-bears_at
 returns-then-not-bears_at c =
     let a = c.args in
     let b = c.lower_bound-at in
-    nobody-bears a.d.now a.t.now a.v a.word.now a.symbols.now c.requires.1 (omega arith) b.result b.ensures (sym c.bears_at.ensures ∙ not-true _ c.if-not-bears_at.true)
+    nobody-bears a.d.now a.t.now a.v a.word.now a.symbols.now c.requires.1 (omega arith) b.result b.ensures (sym c.bears_at.ensures ∙ c.if-not-bears_at.true)
 
 pub returns-then-bears_at : goal.returns-then-bears_at
 returns-then-bears_at c =
     let a = c.args in
     let b = c.lower_bound-at in
     several-bear a.d.now a.t.now a.v a.word.now a.symbols.now c.requires.1 (omega arith) b.result b.ensures
-    (sym c.bears_at.ensures ∙ not-false _ c.if-not-bears_at.false) (sym c.bears_at-2.ensures ∙ c.if-bears_at.true)
+    (sym c.bears_at.ensures ∙ c.if-not-bears_at.false) (sym c.bears_at-2.ensures ∙ c.if-bears_at.true)
 
 pub bounds-symbols-at : goal.bounds-symbols-at
 bounds-symbols-at c =
     let a = c.args in
-    stands-there (length_and_name a.d.now a.t.now a.v) (length_first a.word.now) a.symbols.now c.lower_bound-at.result (sym c.bears_at.ensures ∙ not-false _ c.if-not-bears_at.false)
+    stands-there (length_and_name a.d.now a.t.now a.v) (length_first a.word.now) a.symbols.now c.lower_bound-at.result (sym c.bears_at.ensures ∙ c.if-not-bears_at.false)
 
 pub returns : goal.returns
 returns c =
     let a = c.args in
     one-bears a.d.now a.t.now a.v a.word.now a.symbols.now c.requires.1 (omega arith) c.lower_bound-at.result c.lower_bound-at.ensures
-    (sym c.bears_at.ensures ∙ not-false _ c.if-not-bears_at.false) (sym c.bears_at-2.ensures ∙ c.if-bears_at.false)
+    (sym c.bears_at.ensures ∙ c.if-not-bears_at.false) (sym c.bears_at-2.ensures ∙ c.if-bears_at.false)

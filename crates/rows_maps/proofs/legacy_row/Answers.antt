@@ -15,11 +15,11 @@ inside c =
 
 pub overflow_add-at : goal.overflow_add-at
 overflow_add-at c =
-    omega (arith, inside (goal.at.overflow_add-at c).After-member_at-m, c.member_at-m.type-inv)
+    omega (arith, inside (goal.at.overflow_add-at c).After-member_at-m, c.member_at-m.type_inv)
 
 pub parse_map_def-requires : goal.parse_map_def-requires
 parse_map_def-requires c =
-    (c.gap.ensures.1, omega (arith, inside (goal.at.parse_map_def-requires c).After-member_at-m, c.member_at-m.type-inv))
+    (c.gap.ensures.1, omega (arith, inside (goal.at.parse_map_def-requires c).After-member_at-m, c.member_at-m.type_inv))
 
 pub returns : goal.returns
 returns c =

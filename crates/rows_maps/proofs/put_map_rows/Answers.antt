@@ -36,7 +36,7 @@ loop-k-preserved c =
       place-next a.d.now a.t.now a.v a.numbers.now k r.result r.ensures.row a.at c.loop-k.place c.loop-k.invariant.4 m,
       own-next a.d.now a.t.now a.v a.numbers.now k r.result r.ensures.row a.own c.loop-k.own-place c.loop-k.invariant.5 m,
       put.ensures
-          ∙ rows_more a.d.now a.t.now a.v a.numbers.now k r.result r.ensures.row a.at a.own c.loop-k.place c.loop-k.own-place a.out-1.now c.loop-k.out
+          ∙ rows_more a.d.now a.t.now a.v a.numbers.now k r.result r.ensures.row a.at a.own c.loop-k.place c.loop-k.own-place a.out.now c.loop-k.out
           c.loop-k.invariant.4 c.loop-k.invariant.5 m (omega (arith, u, c.requires.5)) c.loop-k.invariant.6,
     )
 

@@ -31,7 +31,7 @@ loop-i-preserved c =
       omega (arith, t),
       f.auto.0 ∙ c.loop-i.invariant.1,
       ap (λ x. x.rest) e ∙ rest-next a.d.now a.t.now a.symbols.now a.rows k,
-      f.ensures ∙ stored_next a.d.now a.t.now a.symbols.now a.rows a.numbers-1.now k c.loop-i.numbers m.result e c.loop-i.invariant.3 (omega (arith, t)),
+      f.ensures ∙ stored_next a.d.now a.t.now a.symbols.now a.rows a.numbers.now k c.loop-i.numbers m.result e c.loop-i.invariant.3 (omega (arith, t)),
     )
 
 pub returns : goal.returns

@@ -27,7 +27,7 @@ loop-k-preserved c =
       omega (arith, c.loop-k.invariant.2, r.ensures.1),
       place-next a.d.now a.t.now a.v a.numbers.now a.at k c.loop-k.place r.result r.ensures.0 c.loop-k.invariant.3 m,
       c.put7.ensures
-          ∙ rows_more a.d.now a.t.now a.v a.numbers.now a.at k c.loop-k.place r.result r.ensures.0 c.loop-k.invariant.3 a.out-1.now c.loop-k.out
+          ∙ rows_more a.d.now a.t.now a.v a.numbers.now a.at k c.loop-k.place r.result r.ensures.0 c.loop-k.invariant.3 a.out.now c.loop-k.out
           m (omega (arith, t, c.requires)) c.loop-k.invariant.4,
     )
 

@@ -31,7 +31,7 @@ loop-k-preserved c =
       omega (arith, c.loop-k.invariant.2, len.ensures),
       rw len.ensures.0 (place-next a.d.now a.t.now a.v a.numbers.now a.at k c.loop-k.place s.result s.ensures c.loop-k.invariant.3 m),
       c.put4.ensures
-          ∙ rows_more a.d.now a.t.now a.v a.numbers.now a.at k c.loop-k.place len.result index.result s.result a.out-1.now c.loop-k.out
+          ∙ rows_more a.d.now a.t.now a.v a.numbers.now a.at k c.loop-k.place len.result index.result s.result a.out.now c.loop-k.out
           s.ensures c.loop-k.invariant.3 len.ensures.0 index.ensures.0 m (omega (arith, u, c.requires)) c.loop-k.invariant.4,
     )
 

@@ -18,12 +18,12 @@ skip-rest-requires c =
 pub copy_plain-requires-2 : goal.copy_plain-requires-2
 copy_plain-requires-2 c =
     let a = c.args in
-    rest-fits a.d.now c.copy_plain.new.1.1.0 a.gap a.p (length a.t-1.now) c.least-m.result c.new-run.result c.skip-rest.result
+    rest-fits a.d.now c.copy_plain.new.t a.gap a.p (length a.t.now) c.least-m.result c.new-run.result c.skip-rest.result
     c.new-run.ensures c.skip-rest.ensures c.least-m.ensures (omega arith) c.copy_plain.ensures (omega arith) (omega arith)
 
 pub returns : goal.returns
 returns c =
     let a = c.args in
-    over-gap a.d.now c.copy_plain.new.1.1.0 a.gap a.p (length a.t-1.now) c.least-m.result c.new-run.result c.skip-rest.result
-    c.new-run.ensures c.skip-rest.ensures c.least-m.ensures (omega arith) c.copy_plain.ensures c.copy_plain-2.new.1.1.0
+    over-gap a.d.now c.copy_plain.new.t a.gap a.p (length a.t.now) c.least-m.result c.new-run.result c.skip-rest.result
+    c.new-run.ensures c.skip-rest.ensures c.least-m.ensures (omega arith) c.copy_plain.ensures c.copy_plain-2.new.t
     c.copy_plain-2.ensures

@@ -16,7 +16,7 @@ copy8-requires c = simp (length-take, length-drop) (omega arith)
 pub returns-then-e-d : goal.returns-then-e-d
 returns-then-e-d c =
     let a = c.args in
-    c.copy8.ensures ∙ copied-whole a.d.now a.i a.t-1.now (omega arith)
+    c.copy8.ensures ∙ copied-whole a.d.now a.i a.t.now (omega arith)
 
 pub loop-k-init : goal.loop-k-init
 unfolding bytes_at

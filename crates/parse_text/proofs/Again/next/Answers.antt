@@ -10,23 +10,23 @@ pub returns-then-not-is_defined_text : goal.returns-then-not-is_defined_text
 returns-then-not-is_defined_text c =
     let r = c.is_defined_text in
     let a = c.args in
-    next-other a.self a.j a.y (sym r.ensures ∙ not-true r.result c.if-not-is_defined_text.true)
+    next-other a.self a.j a.y (sym r.ensures ∙ c.if-not-is_defined_text.true)
 
 pub returns-then-self-address : goal.returns-then-self-address
 returns-then-self-address c =
     let r = c.is_defined_text in
     let a = c.args in
     ap (λ l. record { seen = true; address = a.y.address; least = l }) c.earlier-least.ensures
-    ∙ next-again a.self a.j a.y (sym r.ensures ∙ not-false r.result c.if-not-is_defined_text.false) c.if-self.true c.if-self-address.true
+    ∙ next-again a.self a.j a.y (sym r.ensures ∙ c.if-not-is_defined_text.false) c.if-self.true c.if-self-address.true
 
 pub returns-else-self-address : goal.returns-else-self-address
 returns-else-self-address c =
     let r = c.is_defined_text in
     let a = c.args in
-    next-apart a.self a.j a.y (sym r.ensures ∙ not-false r.result c.if-not-is_defined_text.false) c.if-self-address.false
+    next-apart a.self a.j a.y (sym r.ensures ∙ c.if-not-is_defined_text.false) c.if-self-address.false
 
 pub returns-else-self : goal.returns-else-self
 returns-else-self c =
     let r = c.is_defined_text in
     let a = c.args in
-    next-first a.self a.j a.y (sym r.ensures ∙ not-false r.result c.if-not-is_defined_text.false) c.if-self.false
+    next-first a.self a.j a.y (sym r.ensures ∙ c.if-not-is_defined_text.false) c.if-self.false

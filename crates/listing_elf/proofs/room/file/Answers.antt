@@ -2,11 +2,7 @@
 use mathlib.Core.Path.{sym}
 use Prim.Native.Nat.{ℕ}
 use lib.ListN.{length-replicate}
-use Rattle.listing_elf.proofs.room.file.Statement.{statement}
-use Rattle.listing_elf.proofs.room.file.Tie as tie
+use Rattle.listing_elf.proofs.room.file.Goals as goal
 
-returns : tie.Need-returns
+pub returns : goal.returns
 returns c = sym (length-replicate {0} {A = ℕ} 1048577 0)
-
-pub file-spec : {M : Type 1} → statement M
-file-spec = tie.close (tie.spec returns)

@@ -2,11 +2,7 @@
 use mathlib.Core.Path.{sym}
 use Prim.Native.Nat.{ℕ}
 use lib.ListN.{length-replicate}
-use Rattle.replay.proofs.room.answer.Statement.{statement}
-use Rattle.replay.proofs.room.answer.Tie as tie
+use Rattle.replay.proofs.room.answer.Goals as goal
 
-returns : tie.Need-returns
+pub returns : goal.returns
 returns c = sym (length-replicate {0} {A = ℕ} 262144 0)
-
-pub answer-spec : {M : Type 1} → statement M
-answer-spec = tie.close (tie.spec returns)

@@ -2,11 +2,7 @@
 use mathlib.Core.Path.{sym}
 use Prim.Native.Nat.{ℕ}
 use lib.ListN.{length-replicate}
-use Rattle.listing_elf.proofs.room.text.Statement.{statement}
-use Rattle.listing_elf.proofs.room.text.Tie as tie
+use Rattle.listing_elf.proofs.room.text.Goals as goal
 
-returns : tie.Need-returns
+pub returns : goal.returns
 returns c = sym (length-replicate {0} {A = ℕ} 1867776 0)
-
-pub text-spec : {M : Type 1} → statement M
-text-spec = tie.close (tie.spec returns)

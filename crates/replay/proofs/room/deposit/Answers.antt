@@ -2,11 +2,7 @@
 use mathlib.Core.Path.{sym}
 use Prim.Native.Nat.{ℕ}
 use lib.ListN.{length-replicate}
-use Rattle.replay.proofs.room.deposit.Statement.{statement}
-use Rattle.replay.proofs.room.deposit.Tie as tie
+use Rattle.replay.proofs.room.deposit.Goals as goal
 
-returns : tie.Need-returns
+pub returns : goal.returns
 returns c = sym (length-replicate {0} {A = ℕ} 2097152 0)
-
-pub deposit-spec : {M : Type 1} → statement M
-deposit-spec = tie.close (tie.spec returns)

@@ -2,11 +2,7 @@
 use mathlib.Core.Path.{sym}
 use Prim.Native.Nat.{ℕ}
 use lib.ListN.{length-replicate}
-use Rattle.replay.proofs.room.bytes.Statement.{statement}
-use Rattle.replay.proofs.room.bytes.Tie as tie
+use Rattle.replay.proofs.room.bytes.Goals as goal
 
-returns : tie.Need-returns
+pub returns : goal.returns
 returns c = sym (length-replicate {0} {A = ℕ} 131072 165)
-
-pub bytes-spec : {M : Type 1} → statement M
-bytes-spec = tie.close (tie.spec returns)

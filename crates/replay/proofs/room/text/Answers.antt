@@ -2,11 +2,7 @@
 use mathlib.Core.Path.{sym}
 use Prim.Native.Nat.{ℕ}
 use lib.ListN.{length-replicate}
-use Rattle.replay.proofs.room.text.Statement.{statement}
-use Rattle.replay.proofs.room.text.Tie as tie
+use Rattle.replay.proofs.room.text.Goals as goal
 
-returns : tie.Need-returns
+pub returns : goal.returns
 returns c = sym (length-replicate {0} {A = ℕ} 524288 0)
-
-pub text-spec : {M : Type 1} → statement M
-text-spec = tie.close (tie.spec returns)

@@ -1,0 +1,55 @@
+-- `listing_elf::list` meets its contract: what the load left is read back as its text, and the buffer has room for it.
+use mathlib.Core.Path.{◌≡◌, sym, ap, ◌∙◌}
+use mathlib.Core.Bool.{false}
+use mathlib.Core.List.{List, []}
+use Prim.Native.Nat.{ℕ, ◌+◌, ◌*◌, ◌≤◌}
+use native.Mathlib.Omega.{arith}
+use lib.ListN.{length}
+use Rattle.model.specs.declared.Answer.{Answer}
+use Rattle.model.specs.Bytes.{AllBytes}
+use Rattle.model.specs.FunctionNumbers.{flat_room}
+use Rattle.model.specs.Lent.{Outcome}
+use Rattle.model.specs.ElfRefusals.{load_elf_of, file_listing_of}
+use Rattle.model.specs.declared.Room.{Room}
+use Rattle.model.specs.Listing.{refusal_text}
+use Rattle.encoding.specs.Code.{all-bytes}
+use Rattle.guarantees.specs.WordsOfDemand3.{Input}
+use Rattle.listing_laws.specs.Numbers.{flat-answer, flat-tables}
+use Rattle.listing_text.specs.Laid.{same_text, whole-text}
+use Rattle.listing_laws.specs.Bound.{refusal-most}
+use Rattle.listing_laws.specs.Text.{answer-fits, answer-text, text-most, long-file, short-file}
+use Rattle.listing_laws.specs.Written.{counted}
+use borrow.Author.Rules.{rules}
+use Rattle.listing_elf.proofs.list.Goals as goal
+
+pub returns-then-d-gt1048576 : goal.returns-then-d-gt1048576
+returns-then-d-gt1048576 c =
+    let e : refusal_text c.too_long.result ≡ file_listing_of 1048576 _ c.args.d.now = ap refusal_text c.too_long.ensures ∙ sym (long-file 1048576 _ c.args.d.now c.if-d-gt1048576.true) in
+    let l = same_text e c.put_refusal.ensures in
+    let h = rw e at (refusal-most c.too_long.result) in
+    (counted c.put_refusal.result c.put_refusal.new.out l.within, whole-text (omega (arith, c.requires)) l)
+
+pub put_answer-requires : goal.put_answer-requires
+put_answer-requires c =
+    let a = c.args in
+    let d : List ℕ = a.d.now in
+    let room : Room = flat_room a.sections.now a.programs.now a.functions.now a.maps.now a.relocations.now a.bytes.now in
+    let o : Outcome = load_elf_of d [] [] false room in
+    let r : Answer = c.load_flat_elf-answer.result in
+    let n : ℕ = length a.functions.now in
+    (omega arith, answer-fits (Input.file d) [] [] false room _ _ _ _ (flat-tables n o r _ _ _ _ _ _ c.load_flat_elf-answer.ensures) r (flat-answer n o r _ _ _ _ _ _ c.load_flat_elf-answer.ensures))
+
+pub returns : goal.returns
+returns c =
+    let a = c.args in
+    let d : List ℕ = a.d.now in
+    let room : Room = flat_room a.sections.now a.programs.now a.functions.now a.maps.now a.relocations.now a.bytes.now in
+    let r : Answer = c.load_flat_elf-answer.result in
+    let o : Outcome = load_elf_of d [] [] false room in
+    let n : ℕ = length a.functions.now in
+    let e : r ≡ o.reply = flat-answer n o r _ _ _ _ _ _ c.load_flat_elf-answer.ensures in
+    let t = answer-text (Input.file d) [] [] false room _ _ _ _ (flat-tables n o r _ _ _ _ _ _ c.load_flat_elf-answer.ensures) r e ∙ sym (short-file 1048576 room d c.if-d-gt1048576.false) in
+    let small : AllBytes d = all-bytes d (λ k. (c.shared_slice_known-1.given k).fits) in
+    let m : length (file_listing_of 1048576 room d) ≤ room.bytes-1 + 10 * room.programs-1 + 73 * room.functions-1 + 3 * room.maps-1 + 71 = rw (short-file 1048576 room d c.if-d-gt1048576.false) (text-most (Input.file d) [] [] false room small r e) in
+    let l = same_text t c.put_answer.ensures in
+    (counted c.put_answer.result c.put_answer.new.out l.within, whole-text (omega (arith, c.requires)) l)
