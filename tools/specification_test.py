@@ -12,7 +12,7 @@ TOP = os.path.join(os.path.dirname(os.path.realpath(__file__)), "..")
 DECLARED = re.compile(r"^\s*(?:(?:abbrev|unfoldable) )?pub (?:record |data )?([^\s:]+)", re.M)
 
 # What the statements are written with, and the examples.
-PLAIN = """Bytes.ascii Bytes.push Bytes.keep Bytes.orElse Bytes._∈_ Bytes.each Bytes.firstIn Bytes.maybe Bytes.find Bytes.isSome Bytes.littleBytes
+PLAIN = """Bytes.ascii Bytes.push Bytes.keep Bytes.or_else Bytes.◌∈◌ Bytes.each Bytes.first_in Bytes.maybe Bytes.find Bytes.is_some Bytes.little_bytes
 Bytes.AllBytes""".split()
 
 
@@ -78,8 +78,8 @@ class Specification(unittest.TestCase):
         for crate, file, call in CALLS:
             text = read(os.path.join(TOP, "crates", crate, "src", f"{file}.rt"))
             contract = re.search(rf"^(?:pub )?(?:extern \"C\" )?fn {call}\(.*?^\{{$", text, re.M | re.S).group(0)
-            words = set(re.split(r"[\s().,⌜⌝]+", contract))
-            cited = {name: owner for owner, names in re.findall(r"^ghost use Rattle·([^.·]+)\S*\.\{(.*)\};$", text, re.M)
+            words = set(re.split(r"[\s().,{}]+", contract))
+            cited = {name: owner for owner, names in re.findall(r"^ghost use Rattle\.(?!std\.)(\w+)\.\S*\{(.*)\};$", text, re.M)
                      for name in re.split(r",\s*", names) if name.split(" as ")[-1] in words}
             self.assertIn("model", cited.values(), call)
             self.assertEqual({name: owner for name, owner in cited.items() if owner not in BELIEVED}, {}, call)
