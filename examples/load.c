@@ -1,5 +1,5 @@
 /* load FILE: loads an ELF file or a deposit with the static library, and prints its programs, functions and maps. Build it at the repository's top:
- *     rt staticlib buncoyew && cc -Iinclude examples/load.c target/staticlib/libbuncoyew.a -o load */
+ *     ./staticlib && cc -Iinclude examples/load.c target/staticlib/libbuncoyew.a -o load */
 #include <inttypes.h>
 #include <stdio.h>
 #include <stdlib.h>

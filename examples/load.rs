@@ -1,5 +1,5 @@
 // load FILE: loads an ELF file or a deposit with the static library, and prints its programs, functions and maps. Build it at the repository's top:
-//     rt staticlib buncoyew && rustc -O examples/load.rs -L target/staticlib -l static=buncoyew
+//     ./staticlib && rustc -O examples/load.rs -L target/staticlib -l static=buncoyew
 use std::process::exit;
 
 // The types and calls of include/buncoyew.h; a range is [at, length].

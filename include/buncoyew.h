@@ -1,4 +1,4 @@
-/* Buncoyew's load calls, and the look-up in a function table. `rt staticlib buncoyew` writes target/staticlib/libbuncoyew.a.
+/* Buncoyew's load calls, and the look-up in a function table. `./staticlib` writes target/staticlib/libbuncoyew.a.
  * docs/CATALOGUE.md sets out every element that a load writes, the patch list, and how much stack a call takes. */
 #ifndef BUNCOYEW_H
 #define BUNCOYEW_H

@@ -11,15 +11,15 @@ import unittest
 
 TOP = os.path.join(os.path.dirname(os.path.realpath(__file__)), "..")
 RT = """#!/bin/sh
-[ "$1" = check ] && [ $# -eq 2 ] || exit 2
-mkdir -p target/log target/bin
+[ "$1" = run ] && [ $# -eq 1 ] || exit 2
+name=${PWD##*/}
+mkdir -p out
 sleep 0.1
-: >target/log/lists.out
+echo 'rt: chose --jobs 2 for lists'
 sleep 2.5
-echo 'rt: lists proved (2 s)' | tee target/log/lists.out
-[ ! -e broken ] || exit 1
-cp program "target/bin/$2"
-chmod +x "target/bin/$2"
+[ ! -e ../../broken ] || exit 1
+cp ../../program "out/$name"
+chmod +x "out/$name"
 """
 PROGRAM = """#!/bin/sh
 text=$(cat | tr -d '\\0')
@@ -36,8 +36,9 @@ class List(unittest.TestCase):
         self.top = tempfile.mkdtemp()
         self.addCleanup(shutil.rmtree, self.top)
         shutil.copy(os.path.join(TOP, "list"), self.top)
-        self.write("crates.txt", "lists:\nelf: lists\nlisting: lists io libc\nlisting_elf: elf lists io libc\nother: lists\n")
-        self.write("crates/lists/src/lib.rt", "")
+        self.write("crates.txt", "lists:\nelf: lists\nlisting: lists io\nlisting_elf: elf lists io\nother: lists\n")
+        for path in ("lists/src/lib.rt", "listing/src/main.rt", "listing_elf/src/main.rt"):
+            self.write(f"crates/{path}", "")
         self.write("program", PROGRAM)
         self.write("bin/rt", RT)
         os.chmod(os.path.join(self.top, "bin/rt"), 0o755)
@@ -69,7 +70,7 @@ class List(unittest.TestCase):
         status, out, said = self.run_list("file")
         self.assertEqual((status, out), (0, "listing_elf 64"))
         self.assertIn("proving its 3 crates", said)
-        self.assertEqual(os.listdir(os.path.join(self.top, "target/bin")), ["listing_elf"])
+        self.assertEqual(os.listdir(os.path.join(self.top, "crates/listing_elf/out")), ["listing_elf"])
         self.assertEqual(self.run_list("file"), (0, "listing_elf 64", ""))
         for text in ("", "\x7fEL", "x" + ELF):
             self.write("deposit", text)

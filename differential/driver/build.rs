@@ -7,7 +7,7 @@ fn main() {
     let archive = Path::new(&folder).join("libbuncoyew.a");
     assert!(
         archive.is_file(),
-        "no {}: rt staticlib buncoyew makes it",
+        "no {}: ./staticlib makes it",
         archive.display()
     );
     println!("cargo::rerun-if-changed={}", archive.display());
