@@ -1,10 +1,8 @@
 use mathlib.Core.Path.{◌≡◌, ◌∙◌}
-use mathlib.Core.List.{◌++◌, append-nil}
-use Prim.Native.Nat.{◌≤◌, ◌-◌}
-use lib.ListN.{drop, replicate, length, length-set}
+use mathlib.Core.List.{append-nil}
+use lib.ListN.{length, length-set}
 use lib.Seq.{drop-length}
 use borrow.Author.Fill.{fill_more}
-use borrow.Author.Rules.{rules}
 use native.Mathlib.Omega.{arith}
 use Rattle.lists.proofs.zero8.Goals as goal
 
