@@ -1,9 +1,6 @@
 -- `names::equal` meets its contract: the whole comparison is what is left of it at byte k (`word_rest`).
-use mathlib.Core.Path.{◌≡◌, refl, sym, ◌∙◌}
-use Prim.Native.Nat.{◌≤◌, ◌-◌}
-use lib.ListN.{length}
-use Rattle.model.specs.Bytes.{same}
-use Rattle.names.specs.Words.{word_rest, rest-agrees, rest-differs, rest_end}
+use mathlib.Core.Path.{refl, sym, ◌∙◌}
+use Rattle.names.specs.Words.{rest-agrees, rest-differs, rest_end}
 use borrow.Author.Rules.{rules}
 use native.Mathlib.Omega.{arith}
 use Rattle.names.proofs.equal.Goals as goal

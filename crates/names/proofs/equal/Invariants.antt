@@ -1,10 +1,8 @@
-use mathlib.Core.Path.{◌≡◌, refl, sym, ◌∙◌}
+use mathlib.Core.Path.{◌≡◌}
 use Prim.Native.Nat.{◌≤◌, ◌-◌}
 use lib.ListN.{length}
 use Rattle.model.specs.Bytes.{same}
-use Rattle.names.specs.Words.{word_rest, rest-agrees, rest-differs, rest_end}
-use borrow.Author.Rules.{rules}
-use native.Mathlib.Omega.{arith}
+use Rattle.names.specs.Words.{word_rest}
 use Rattle.names.proofs.equal.Given as goal
 
 abbrev pub invariant-loop-k : goal.invariant-loop-k

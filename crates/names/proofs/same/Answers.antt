@@ -4,7 +4,6 @@ use native.Mathlib.Omega.{arith}
 use lib.ListN.{length}
 use Rattle.stream.specs.Stream.{bytes_at, length-bytes}
 use Rattle.names.specs.Words.{same-lengths}
-use borrow.Author.Rules.{rules}
 use Rattle.names.proofs.same.Goals as goal
 
 pub returns-then-n-word : goal.returns-then-n-word

@@ -1,12 +1,11 @@
 -- `names::stands_apart` meets its contract: the run stands at byte k, and the whole comparison is what is left of it there (`word_rest`).
 use mathlib.Core.Path.{◌≡◌, refl, sym, ◌∙◌}
-use Prim.Native.Nat.{◌≤◌, ◌+◌, ◌-◌}
+use Prim.Native.Nat.{◌+◌}
 use lib.ListN.{length, get_or}
-use Rattle.model.specs.Bytes.{same}
 use Rattle.stream.specs.Stream.{bytes_at, length-bytes}
 use Rattle.stream.specs.Laws.{get_or-bytes}
-use Rattle.stream.specs.Run.{run_at, run-byte, run-next, run-one}
-use Rattle.names.specs.Words.{word_rest, rest-agrees, rest-differs, rest_end}
+use Rattle.stream.specs.Run.{run-byte, run-next, run-one}
+use Rattle.names.specs.Words.{rest-agrees, rest-differs, rest_end}
 use borrow.Author.Rules.{rules}
 use native.Mathlib.Omega.{arith}
 use Rattle.names.proofs.stands_apart.Goals as goal
@@ -21,12 +20,12 @@ loop-k-init c =
 -- the byte that was read
 read : (c : After-byte)
     → (let a = c.args in
-    c.byte.result ≡ get_or (bytes_at a.d.now a.gap a.at (length a.word.now)) c.loop.k 0)
+    c.byte.result ≡ get_or (bytes_at a.d.now a.gap a.at (length a.word.now)) c.loop-k.k 0)
 read c =
     let a = c.args in
     c.byte.ensures
-    ∙ run-byte a.d.now a.gap (a.at + c.loop.k) c.loop.run c.loop.invariant.1
-    ∙ sym (get_or-bytes a.d.now a.gap a.at (length a.word.now) c.loop.k (omega arith))
+    ∙ run-byte a.d.now a.gap (a.at + c.loop-k.k) c.loop-k.run c.loop-k.invariant.1
+    ∙ sym (get_or-bytes a.d.now a.gap a.at (length a.word.now) c.loop-k.k (omega arith))
 
 pub returns-then-byte-word : goal.returns-then-byte-word
 returns-then-byte-word c =

@@ -1,13 +1,10 @@
-use mathlib.Core.Path.{◌≡◌, refl, sym, ◌∙◌}
+use mathlib.Core.Path.{◌≡◌}
 use Prim.Native.Nat.{◌≤◌, ◌+◌, ◌-◌}
-use lib.ListN.{length, get_or}
+use lib.ListN.{length}
 use Rattle.model.specs.Bytes.{same}
-use Rattle.stream.specs.Stream.{bytes_at, length-bytes}
-use Rattle.stream.specs.Laws.{get_or-bytes}
-use Rattle.stream.specs.Run.{run_at, run-byte, run-next, run-one}
-use Rattle.names.specs.Words.{word_rest, rest-agrees, rest-differs, rest_end}
-use borrow.Author.Rules.{rules}
-use native.Mathlib.Omega.{arith}
+use Rattle.stream.specs.Stream.{bytes_at}
+use Rattle.stream.specs.Run.{run_at}
+use Rattle.names.specs.Words.{word_rest}
 use Rattle.names.proofs.stands_apart.Given as goal
 
 abbrev pub invariant-loop-k : goal.invariant-loop-k

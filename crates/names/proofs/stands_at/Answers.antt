@@ -8,7 +8,6 @@ use Rattle.stream.specs.declared.Run.{Run}
 use Rattle.stream.specs.Stream.{bytes_at}
 use Rattle.stream.specs.Laws.{bytes-block, spot-bytes}
 use Rattle.stream.specs.Run.{run_at, run-at, run_room, run-one}
-use borrow.Author.Rules.{rules}
 use native.Mathlib.Omega.{arith}
 use Rattle.names.proofs.stands_at.Goals as goal
 

@@ -3,7 +3,6 @@ use mathlib.Core.Path.{sym}
 use native.Mathlib.Omega.{arith}
 use Rattle.stream.specs.Stream.{bytes_at, length-bytes}
 use Rattle.names.specs.Words.{starts-short, starts-same}
-use borrow.Author.Rules.{rules}
 use Rattle.names.proofs.starts_with.Goals as goal
 
 pub returns-then-n-word : goal.returns-then-n-word
