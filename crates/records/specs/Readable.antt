@@ -1,6 +1,5 @@
 -- What an opened view promises: limits, indexes that rise, and that its names, data and relocations lie inside. Everything above `records` holds of any view that is Readable.
-use Rattle.std.specs.Prelude.{List, ℕ, ◌+◌, ◌^◌, ◌<◌, ◌≤◌, length}
-use Rattle.std.proofs.Common.{arith}
+use Rattle.std.specs.Prelude.{List, ℕ, ◌+◌, ◌<◌, ◌≤◌, length}
 use Rattle.model.specs.declared.Extent.{Extent}
 use Rattle.stream.specs.Stream.{place}
 use Rattle.object_view.specs.declared.View.{View}

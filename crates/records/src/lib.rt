@@ -1,5 +1,6 @@
 // The one door to records: a deposit's or an ELF file's, by number, through a view; what a map's number stands for; and the walk over record numbers.
 #![tactic(auto)]
+
 ghost use Rattle.std.specs.Prelude.{◌≡◌, ◌+◌, ◌^◌, ◌<◌, ◌≤◌, length};
 ghost use Rattle.model.specs.Bytes.{u32};
 ghost use Rattle.model.specs.Deposit.{byte_order, end_of, extent as extent_of, section_record, symbol_record, relocation_record};

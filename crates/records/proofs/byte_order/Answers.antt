@@ -1,5 +1,5 @@
 -- `records::byte_order` meets its contract.
-use borrow.Author.Tests.{eq-eqb, ne_eqb, le-leb, lt-leb}
+use borrow.Author.Tests.{eq-eqb, ne_eqb}
 use Rattle.model.specs.Deposit.{byte_order}
 use Rattle.records.proofs.byte_order.Goals as goal
 

@@ -1,6 +1,5 @@
 -- `records::deposit_relocation` meets its contract.
 use Rattle.records.specs.Records.{deposit_relocation}
-use borrow.Author.Rules.{rules}
 use Rattle.records.proofs.deposit_relocation.Goals as goal
 
 pub returns : goal.returns

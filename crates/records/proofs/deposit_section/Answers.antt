@@ -1,6 +1,5 @@
 -- `records::deposit_section` meets its contract.
 use Rattle.records.specs.Records.{deposit_section}
-use borrow.Author.Rules.{rules}
 use Rattle.records.proofs.deposit_section.Goals as goal
 
 pub returns : goal.returns

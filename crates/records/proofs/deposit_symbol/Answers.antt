@@ -1,6 +1,5 @@
 -- `records::deposit_symbol` meets its contract.
 use Rattle.records.specs.Records.{deposit_symbol}
-use borrow.Author.Rules.{rules}
 use Rattle.records.proofs.deposit_symbol.Goals as goal
 
 pub returns : goal.returns

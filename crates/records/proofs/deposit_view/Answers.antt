@@ -1,5 +1,4 @@
 -- `records::deposit_view` meets its contract.
-use native.Mathlib.Omega.{arith}
 use Rattle.model.specs.Deposit.{end_of}
 use Rattle.records.specs.View.{deposit_view}
 use borrow.Author.Rules.{rules}

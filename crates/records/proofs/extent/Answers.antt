@@ -1,5 +1,4 @@
 -- `records::extent` meets its contract.
-use borrow.Author.Rules.{rules}
 use Rattle.records.proofs.extent.Goals as goal
 
 pub returns : goal.returns

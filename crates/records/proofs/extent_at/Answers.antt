@@ -3,7 +3,6 @@ use Prim.Native.Nat.{ℕ, ◌<◌}
 use native.Mathlib.Omega.{arith}
 use Rattle.stream.specs.Stream.{place, byte_at}
 use Rattle.records.specs.Fields.{extent-both}
-use borrow.Author.Rules.{rules}
 use Rattle.records.proofs.extent_at.Goals as goal
 
 pub returns : goal.returns

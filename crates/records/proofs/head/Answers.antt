@@ -1,7 +1,6 @@
 -- `records::head` meets its contract: its fields are the numbers that were read.
 use Rattle.records.specs.Records.{head_at}
 use Rattle.records.specs.Fields.{head-fields}
-use borrow.Author.Rules.{rules}
 use Rattle.records.proofs.head.Goals as goal
 
 pub returns : goal.returns

@@ -1,7 +1,6 @@
 -- `records::map_name` meets its contract: the name that was read is that of the number's source.
 use mathlib.Core.Path.{sym, ap, ◌∙◌}
 use Rattle.records.specs.Maps.{source_name, map_name_at}
-use borrow.Author.Rules.{rules}
 use Rattle.records.proofs.map_name.Goals as goal
 
 pub returns-in-Section : goal.returns-in-Section

@@ -1,6 +1,5 @@
 -- `records::map_number` meets its contract: in each arm the source is that variant.
 use native.Mathlib.Omega.{arith}
-use borrow.Author.Rules.{rules}
 use Rattle.records.proofs.map_number.Goals as goal
 
 pub overflow_add-result : goal.overflow_add-result

@@ -1,7 +1,6 @@
 -- `records::relocation` meets its contract.
 use mathlib.Core.Path.{sym, ◌∙◌}
 use Rattle.records.specs.View.{relocation_at, relocation-elf}
-use borrow.Author.Rules.{rules}
 use Rattle.records.proofs.relocation.Goals as goal
 
 pub returns-in-Deposit : goal.returns-in-Deposit

@@ -5,7 +5,6 @@ use Rattle.model.specs.declared.RelocationRecord.{RelocationRecord}
 use Rattle.records.specs.View.{relocation_at, relocation-elf}
 use Rattle.records.specs.Fields.{relocation-offset}
 use Rattle.elf_records.specs.Elf.{elf_relocation}
-use borrow.Author.Rules.{rules}
 use Rattle.records.proofs.relocation_offset.Goals as goal
 
 pub returns-in-Deposit : goal.returns-in-Deposit

@@ -5,7 +5,6 @@ use Rattle.model.specs.declared.RelocationRecord.{RelocationRecord}
 use Rattle.records.specs.View.{relocation_at, relocation-elf}
 use Rattle.records.specs.Fields.{relocation-symbol}
 use Rattle.elf_records.specs.Elf.{elf_relocation}
-use borrow.Author.Rules.{rules}
 use Rattle.records.proofs.relocation_symbol.Goals as goal
 
 pub returns-in-Deposit : goal.returns-in-Deposit

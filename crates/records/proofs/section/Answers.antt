@@ -1,7 +1,6 @@
 -- `records::section` meets its contract.
 use mathlib.Core.Path.{sym, ◌∙◌}
 use Rattle.records.specs.View.{section_at, section-elf}
-use borrow.Author.Rules.{rules}
 use Rattle.records.proofs.section.Goals as goal
 
 pub returns-in-Deposit : goal.returns-in-Deposit

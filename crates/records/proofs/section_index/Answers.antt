@@ -5,7 +5,6 @@ use Rattle.model.specs.declared.SectionRecord.{SectionRecord}
 use Rattle.records.specs.View.{section_at, section-elf}
 use Rattle.records.specs.Fields.{section-index}
 use Rattle.elf_records.specs.Elf.{elf_section}
-use borrow.Author.Rules.{rules}
 use Rattle.records.proofs.section_index.Goals as goal
 
 pub returns-in-Deposit : goal.returns-in-Deposit

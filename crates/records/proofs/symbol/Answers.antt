@@ -1,7 +1,6 @@
 -- `records::symbol` meets its contract.
 use mathlib.Core.Path.{sym, ◌∙◌}
 use Rattle.records.specs.View.{symbol_at, symbol-elf}
-use borrow.Author.Rules.{rules}
 use Rattle.records.proofs.symbol.Goals as goal
 
 pub returns-in-Deposit : goal.returns-in-Deposit

@@ -5,7 +5,6 @@ use native.Mathlib.Omega.{arith}
 use Rattle.model.specs.Bytes.{little, part}
 use Rattle.model.specs.Deposit.{symbol_record}
 use Rattle.stream.specs.Fields.{part-first}
-use borrow.Author.Rules.{rules}
 use Rattle.records.proofs.symbol_of.Goals as goal
 
 pub returns : goal.returns

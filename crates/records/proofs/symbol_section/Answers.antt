@@ -5,7 +5,6 @@ use Rattle.model.specs.declared.SymbolRecord.{SymbolRecord}
 use Rattle.records.specs.View.{symbol_at, symbol-elf}
 use Rattle.records.specs.Fields.{symbol-section}
 use Rattle.elf_records.specs.Elf.{elf_symbol}
-use borrow.Author.Rules.{rules}
 use Rattle.records.proofs.symbol_section.Goals as goal
 
 pub returns-in-Deposit : goal.returns-in-Deposit

@@ -1,7 +1,6 @@
 -- `records::Cursor::next` meets its contract: each arm is the one that `step_of` takes.
 use borrow.Author.Tests.{lt-ltb, le-ltb}
 use Rattle.records.specs.Records.{step_of}
-use borrow.Author.Rules.{rules}
 use Rattle.records.proofs.Cursor.next.Goals as goal
 
 pub returns-then-at-end : goal.returns-then-at-end
