@@ -2,7 +2,6 @@
 use native.Mathlib.Omega.{arith}
 use lib.ListN.{length}
 use Rattle.stream.specs.Run.{run-one, rest-fits, over-gap}
-use borrow.Author.Rules.{rules}
 use Rattle.stream.proofs.copy_bytes.Goals as goal
 
 pub copy_plain-requires : goal.copy_plain-requires

@@ -1,8 +1,7 @@
 -- `stream::copy_plain` meets its contract: bytes inside d are copied at once, and else one by one: those copied stand in front of what t had.
 use mathlib.Core.Path.{◌≡◌, refl, ◌∙◌}
-use mathlib.Core.List.{◌++◌, append-nil}
-use Prim.Native.Nat.{◌≤◌, ◌-◌}
-use lib.ListN.{length, drop, length-take, length-drop, length-set}
+use mathlib.Core.List.{append-nil}
+use lib.ListN.{length, length-take, length-drop, length-set}
 use lib.Seq.{drop-length}
 use Rattle.stream.specs.Stream.{bytes_at}
 use Rattle.stream.specs.Laws.{copied_more, copied-whole}

@@ -1,12 +1,8 @@
-use mathlib.Core.Path.{◌≡◌, refl, ◌∙◌}
-use mathlib.Core.List.{◌++◌, append-nil}
+use mathlib.Core.Path.{◌≡◌}
+use mathlib.Core.List.{◌++◌}
 use Prim.Native.Nat.{◌≤◌, ◌-◌}
-use lib.ListN.{length, drop, length-take, length-drop, length-set}
-use lib.Seq.{drop-length}
+use lib.ListN.{length, drop}
 use Rattle.stream.specs.Stream.{bytes_at}
-use Rattle.stream.specs.Laws.{copied_more, copied-whole}
-use borrow.Author.Rules.{rules}
-use native.Mathlib.Omega.{arith}
 use Rattle.stream.proofs.copy_plain.Given as goal
 
 abbrev pub invariant-loop-k : goal.invariant-loop-k

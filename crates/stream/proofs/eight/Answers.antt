@@ -1,7 +1,6 @@
 -- `stream::eight` meets its contract, by the law of eight bytes that stand together.
 use native.Mathlib.Omega.{arith}
 use Rattle.stream.specs.Fields.{part-eight}
-use borrow.Author.Rules.{rules}
 use Rattle.stream.proofs.eight.Goals as goal
 
 pub returns : goal.returns

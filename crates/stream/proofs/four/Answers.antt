@@ -2,7 +2,6 @@
 use mathlib.Core.Path.{sym, ◌∙◌}
 use native.Mathlib.Omega.{arith}
 use Rattle.stream.specs.Fields.{part-four}
-use borrow.Author.Rules.{rules}
 use Rattle.stream.proofs.four.Goals as goal
 
 pub returns : goal.returns

@@ -1,7 +1,6 @@
 -- `stream::spot_of` meets its contract, by the law of bytes of one block.
 use native.Mathlib.Omega.{arith}
 use Rattle.stream.specs.Laws.{bytes-block}
-use borrow.Author.Rules.{rules}
 use Rattle.stream.proofs.spot_of.Goals as goal
 
 pub returns-then-i-n : goal.returns-then-i-n

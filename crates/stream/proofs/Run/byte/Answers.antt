@@ -1,6 +1,5 @@
 -- `stream::Run::byte` meets its contract: past the end `get_or` answers 0.
 use lib.ListN.{get_or-eq_default}
-use borrow.Author.Rules.{rules}
 use Rattle.stream.proofs.Run.byte.Goals as goal
 
 pub returns-else-i-d : goal.returns-else-i-d

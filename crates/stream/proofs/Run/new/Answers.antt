@@ -3,7 +3,6 @@ use mathlib.Core.Path.{refl}
 use native.Mathlib.Omega.{arith}
 use Rattle.stream.specs.Stream.{gap-small}
 use Rattle.stream.specs.Run.{run_at}
-use borrow.Author.Rules.{rules}
 use Rattle.stream.proofs.Run.new.Goals as goal
 
 pub overflow_mul-result : goal.overflow_mul-result

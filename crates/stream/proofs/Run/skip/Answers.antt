@@ -1,5 +1,4 @@
 -- `stream::Run::skip` meets its contract: each arm is the one that `skipped` takes.
-use borrow.Author.Rules.{rules}
 use borrow.Author.Tests.{lt-ltb, le-ltb}
 use Rattle.stream.specs.Run.{skipped}
 use Rattle.stream.proofs.Run.skip.Goals as goal
