@@ -1,5 +1,6 @@
 // The own bytes of maps, by map numbers.
 #![tactic(auto)]
+
 ghost use Rattle.std.specs.Prelude.{◌≡◌, ◌++◌, ◌+◌, ◌^◌, ◌<◌, ◌≤◌, length, take, drop};
 ghost use Rattle.records.specs.Readable.{Readable};
 ghost use Rattle.bytes_maps.specs.Own.{own_of, own_bytes};

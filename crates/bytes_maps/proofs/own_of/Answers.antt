@@ -2,7 +2,6 @@
 use mathlib.Core.Path.{sym, ap, ◌∙◌}
 use mathlib.Core.Bool.{true, false}
 use Rattle.bytes_maps.specs.Own.{source_own, own_of, section-own}
-use borrow.Author.Rules.{rules}
 use Rattle.bytes_maps.proofs.own_of.Goals as goal
 
 pub returns-then-is_bss : goal.returns-then-is_bss
