@@ -1,5 +1,6 @@
 // The bytes of a lent catalogue: copies of runs of the stream, and the names of records.
 #![tactic(auto)]
+
 ghost use Rattle.std.specs.Prelude.{◌≡◌, ◌++◌, ◌+◌, ◌^◌, ◌<◌, ◌≤◌, min, length, take, drop};
 ghost use Rattle.stream.specs.Stream.{bytes_at, place as place_of};
 ghost use Rattle.bytes_names.specs.Pieces.{extent_of, piece_of, PieceInside};

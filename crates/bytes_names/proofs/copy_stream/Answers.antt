@@ -1,24 +1,22 @@
 -- `bytes_names::copy_stream` meets its contract: what is copied are the first bytes, and each turn lays those left in the block behind them.
 use mathlib.Core.Path.{◌≡◌, refl, ap, ◌∙◌}
-use mathlib.Core.List.{◌++◌}
-use Prim.Native.Nat.{ℕ, ◌+◌, ◌-◌, ◌≤◌}
+use Prim.Native.Nat.{ℕ, ◌+◌, ◌-◌}
 use native.Mathlib.Omega.{arith}
-use lib.ListN.{length, take, drop}
+use lib.ListN.{length}
 use Rattle.stream.specs.Stream.{bytes_at}
 use Rattle.stream.specs.Run.{run_at, Turn, turn}
 use Rattle.lists.specs.Slice.{put-none}
 use Rattle.bytes_names.specs.Copy.{part-fits, copy_more, copied-length}
-use borrow.Author.Rules.{rules}
 use Rattle.bytes_names.proofs.copy_stream.Goals as goal
 use Rattle.bytes_names.proofs.copy_stream.Goals.{After-least-m}
 
 turn-of : (c : After-least-m) →
     let a = c.args in
-    Turn a.d.now a.gap (a.p + (a.n - c.loop-left.false)) c.loop-left.false c.loop-left.run c.least-m.result
+    Turn a.d.now a.gap (a.p + (a.n - c.loop-left.left)) c.loop-left.left c.loop-left.run c.least-m.result
 turn-of c =
     let a = c.args in
-    let e : a.p + (a.n - c.loop-left.false) + c.loop-left.false ≡ a.p + a.n = omega arith in
-    turn a.d.now a.gap (a.p + (a.n - c.loop-left.false)) c.loop-left.false c.loop-left.run c.least-m.result c.loop-left.invariant.3 (omega arith) (rw e (omega arith))
+    let e : a.p + (a.n - c.loop-left.left) + c.loop-left.left ≡ a.p + a.n = omega arith in
+    turn a.d.now a.gap (a.p + (a.n - c.loop-left.left)) c.loop-left.left c.loop-left.run c.least-m.result c.loop-left.invariant.3 (omega arith) (rw e (omega arith))
     c.least-m.ensures
 
 pub loop-left-init : goal.loop-left-init
@@ -73,10 +71,10 @@ loop-left-preserved c =
     let a = c.args in
     let m : ℕ = c.least-m.result in
     let t = turn-of (goal.at.loop-left-preserved c).After-least-m in
-    let k : ℕ = a.n - c.loop-left.false in
-    let e : k + m ≡ a.n - (c.loop-left.false - m) = omega (arith, t) in
-    let f : a.p + k + m ≡ a.p + (a.n - (c.loop-left.false - m)) = omega (arith, t) in
-    let q = copy_more a.d.now a.gap a.p k c.loop-left.false m c.loop-left.run a.at c.loop-left.o a.out.now c.loop-left.out
+    let k : ℕ = a.n - c.loop-left.left in
+    let e : k + m ≡ a.n - (c.loop-left.left - m) = omega (arith, t) in
+    let f : a.p + k + m ≡ a.p + (a.n - (c.loop-left.left - m)) = omega (arith, t) in
+    let q = copy_more a.d.now a.gap a.p k c.loop-left.left m c.loop-left.run a.at c.loop-left.o a.out.now c.loop-left.out
     c.copy8.new.dst t (omega arith) (omega (arith, t)) c.loop-left.invariant.2 c.loop-left.invariant.4 c.copy8.ensures
     in (
       omega (arith, t),
@@ -89,6 +87,6 @@ loop-left-preserved c =
 pub returns : goal.returns
 returns c =
     let a = c.args in
-    let e : c.loop-left.false ≡ 0 = omega arith in
-    let f : a.n - c.loop-left.false ≡ a.n = omega arith in
+    let e : c.loop-left.left ≡ 0 = omega arith in
+    let f : a.n - c.loop-left.left ≡ a.n = omega arith in
     c.loop-left.invariant.4 ∙ rw (c.loop-left.invariant.1, f)

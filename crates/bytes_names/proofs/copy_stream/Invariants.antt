@@ -1,13 +1,9 @@
-use mathlib.Core.Path.{◌≡◌, refl, ap, ◌∙◌}
+use mathlib.Core.Path.{◌≡◌}
 use mathlib.Core.List.{◌++◌}
-use Prim.Native.Nat.{ℕ, ◌+◌, ◌-◌, ◌≤◌}
-use native.Mathlib.Omega.{arith}
+use Prim.Native.Nat.{◌+◌, ◌-◌, ◌≤◌}
 use lib.ListN.{length, take, drop}
 use Rattle.stream.specs.Stream.{bytes_at}
-use Rattle.stream.specs.Run.{run_at, Turn, turn}
-use Rattle.lists.specs.Slice.{put-none}
-use Rattle.bytes_names.specs.Copy.{part-fits, copy_more, copied-length}
-use borrow.Author.Rules.{rules}
+use Rattle.stream.specs.Run.{run_at}
 use Rattle.bytes_names.proofs.copy_stream.Given as goal
 
 abbrev pub invariant-loop-left : goal.invariant-loop-left

@@ -1,6 +1,5 @@
 -- `bytes_names::extent` meets its contract: each arm is the one that `extent_of` takes.
 use Rattle.bytes_names.specs.Pieces.{extent_of}
-use borrow.Author.Rules.{rules}
 use Rattle.bytes_names.proofs.extent.Goals as goal
 
 pub returns-in-SectionName : goal.returns-in-SectionName

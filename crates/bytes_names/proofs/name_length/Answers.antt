@@ -1,6 +1,5 @@
 -- `bytes_names::name_length` meets its contract.
 use mathlib.Core.Path.{sym, ◌∙◌}
-use borrow.Author.Rules.{rules}
 use Rattle.bytes_names.specs.Pieces.{piece-length}
 use Rattle.bytes_names.proofs.name_length.Goals as goal
 

@@ -2,7 +2,6 @@
 use mathlib.Core.Path.{◌≡◌, ◌∙◌}
 use native.Mathlib.Omega.{arith}
 use lib.ListN.{length}
-use borrow.Author.Rules.{rules}
 use Rattle.bytes_names.specs.Pieces.{piece_of, piece-length, piece_bytes, piece-placed}
 use Rattle.bytes_names.proofs.put_name.Goals as goal
 use Rattle.bytes_names.proofs.put_name.Goals.{After-name_at}
@@ -31,7 +30,7 @@ copy_stream-requires c =
 
 pub overflow_add-result : goal.overflow_add-result
 overflow_add-result c =
-    omega (arith, long (goal.at.overflow_add-result c).After-name_at, c.requires.1, c.well-formed.1.1.1.1.1.0)
+    omega (arith, long (goal.at.overflow_add-result c).After-name_at, c.requires.1)
 
 pub returns : goal.returns
 returns c =
