@@ -1,5 +1,6 @@
 // The header of an ELF file and its section headers by number, read where they lie.
 #![tactic(auto)]
+
 ghost use Rattle.std.specs.Prelude.{◌≡◌, ◌||◌, ◌+◌, ◌*◌, ◌^◌, ◌<◌, ◌≤◌, min, eqb, length};
 ghost use Rattle.model.specs.Elf.{file_order, entry_count};
 ghost use Rattle.elf_header.specs.Headers.{header_in, entries_at, file_header_of, present_sections, first_place, headers_of};

@@ -1,5 +1,4 @@
 -- `elf_header::entry_count` meets its contract.
-use borrow.Author.Rules.{rules}
 use Rattle.elf_header.proofs.entry_count.Goals as goal
 
 pub returns : goal.returns

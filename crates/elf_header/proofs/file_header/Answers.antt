@@ -1,6 +1,5 @@
 -- `elf_header::file_header` meets its contract.
 use mathlib.Core.Path.{◌≡◌, ◌∙◌}
-use borrow.Author.Rules.{rules}
 use Rattle.model.specs.Elf.{file_order, field, file_of}
 use Rattle.elf_header.specs.Headers.{entries_at, file_header_of}
 use Rattle.elf_header.proofs.file_header.Goals as goal

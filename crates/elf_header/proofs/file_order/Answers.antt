@@ -1,5 +1,4 @@
 -- `elf_header::file_order` meets its contract.
-use borrow.Author.Rules.{rules}
 use borrow.Author.Tests.{eq-eqb, ne_eqb}
 use lib.ListN.{get_or-eq_default}
 use Rattle.model.specs.Elf.{file_order}

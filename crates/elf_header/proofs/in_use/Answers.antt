@@ -1,6 +1,5 @@
 -- `elf_header::in_use` meets its contract.
-use borrow.Author.Tests.{eq-eqb, ne_eqb, not-true, not-false}
-use borrow.Author.Rules.{rules}
+use borrow.Author.Tests.{eq-eqb, ne_eqb}
 use Rattle.elf_header.proofs.in_use.Goals as goal
 
 pub returns-then-not-is_relocations : goal.returns-then-not-is_relocations

@@ -1,6 +1,5 @@
 -- `elf_header::section_headers` meets its contract.
 use mathlib.Core.Path.{◌≡◌, ◌∙◌}
-use borrow.Author.Rules.{rules}
 use Rattle.elf_header.specs.Headers.{present_sections, first_place, headers_of}
 use Rattle.elf_header.proofs.section_headers.Goals as goal
 

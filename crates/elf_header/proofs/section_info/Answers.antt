@@ -1,7 +1,6 @@
 -- `elf_header::section_info` meets its contract.
 use mathlib.Core.Path.{◌∙◌}
 use native.Mathlib.Omega.{arith}
-use borrow.Author.Rules.{rules}
 use Rattle.model.specs.Elf.{header_of}
 use Rattle.elf_header.specs.Headers.{header-field}
 use Rattle.elf_header.proofs.section_info.Goals as goal
