@@ -1,5 +1,6 @@
 // Number 25 of an ELF file's fields: each is compared as far as it is present.
 #![tactic(auto)]
+
 ghost use Rattle.std.specs.Prelude.{◌≡◌, ◌+◌, ◌^◌, ◌<◌, ◌≤◌, length};
 ghost use Rattle.model.specs.Bytes.{starts_with, part};
 ghost use Rattle.model.specs.ElfRefusals.{field_is};

@@ -1,7 +1,6 @@
 -- `elf_ident::byte_is` meets its contract.
 use borrow.Author.Tests.{lt-ltb, le-ltb}
 use Rattle.elf_ident.specs.FirstBytes.{byte_is}
-use borrow.Author.Rules.{rules}
 use Rattle.elf_ident.proofs.byte_is.Goals as goal
 
 pub returns-then-p-d : goal.returns-then-p-d

@@ -1,13 +1,11 @@
 -- `elf_ident::bytes_are` meets its contract: the bytes passed agree, so that all do where those to go do.
 use mathlib.Core.Path.{◌≡◌, sym, ◌∙◌}
-use Prim.Native.Nat.{◌+◌, ◌-◌, ◌≤◌}
+use Prim.Native.Nat.{◌-◌}
 use native.Mathlib.Nat.{add-zero, sub-zero}
 use native.Mathlib.Omega.{arith}
-use borrow.Author.Tests.{not-true, not-false}
-use lib.ListN.{length, drop}
-use Rattle.model.specs.Bytes.{starts_with, part}
+use lib.ListN.{length}
+use Rattle.model.specs.Bytes.{starts_with}
 use Rattle.elf_ident.specs.FirstBytes.{starts_from}
-use borrow.Author.Rules.{rules}
 use Rattle.elf_ident.proofs.bytes_are.Goals as goal
 
 pub loop-i-init : goal.loop-i-init

@@ -1,12 +1,7 @@
-use mathlib.Core.Path.{◌≡◌, sym, ◌∙◌}
+use mathlib.Core.Path.{◌≡◌}
 use Prim.Native.Nat.{◌+◌, ◌-◌, ◌≤◌}
-use native.Mathlib.Nat.{add-zero, sub-zero}
-use native.Mathlib.Omega.{arith}
-use borrow.Author.Tests.{not-true, not-false}
 use lib.ListN.{length, drop}
 use Rattle.model.specs.Bytes.{starts_with, part}
-use Rattle.elf_ident.specs.FirstBytes.{starts_from}
-use borrow.Author.Rules.{rules}
 use Rattle.elf_ident.proofs.bytes_are.Given as goal
 
 abbrev pub invariant-loop-i : goal.invariant-loop-i

@@ -3,7 +3,6 @@ use mathlib.Core.Path.{sym, ◌∙◌}
 use native.Mathlib.Omega.{arith}
 use Rattle.model.specs.ElfRefusals.{field_is}
 use Rattle.elf_ident.specs.FirstBytes.{low_below, lone-byte, length-lone}
-use borrow.Author.Rules.{rules}
 use Rattle.elf_ident.proofs.field_is.Goals as goal
 
 pub bounds-s-low : goal.bounds-s-low

@@ -1,11 +1,9 @@
 -- `elf_ident::first_bytes_ok` meets its contract: each test in its turn.
 use mathlib.Core.Path.{◌≡◌, ◌∙◌}
-use borrow.Author.Tests.{not-true, not-false}
 use lib.ListN.{take}
 use Rattle.model.specs.Bytes.{starts_with}
 use Rattle.model.specs.ElfRefusals.{first_seven}
 use Rattle.elf_ident.specs.FirstBytes.{first_bytes_ok, first_seven-mark}
-use borrow.Author.Rules.{rules}
 use Rattle.elf_ident.proofs.first_bytes_ok.Goals as goal
 use Rattle.elf_ident.proofs.first_bytes_ok.Goals.{After-bytes_are}
 

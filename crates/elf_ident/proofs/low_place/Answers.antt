@@ -1,6 +1,5 @@
 -- `elf_ident::low_place` meets its contract.
 use Rattle.elf_ident.specs.FirstBytes.{low_place}
-use borrow.Author.Rules.{rules}
 use Rattle.elf_ident.proofs.low_place.Goals as goal
 
 pub returns-in-Little : goal.returns-in-Little

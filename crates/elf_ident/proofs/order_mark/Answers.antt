@@ -1,6 +1,5 @@
 -- `elf_ident::order_mark` meets its contract.
 use Rattle.elf_ident.specs.FirstBytes.{order_mark}
-use borrow.Author.Rules.{rules}
 use Rattle.elf_ident.proofs.order_mark.Goals as goal
 
 pub returns-in-Little : goal.returns-in-Little
