@@ -1,5 +1,6 @@
 // How a file that passes 25 and all of 26 but its names lies in its bytes.
 #![tactic(auto)]
+
 use model::Refusal;
 use object_view::{Strings, View};
 
