@@ -1,5 +1,6 @@
 // The records of an ELF file, read where they lie. A number that the file's end cuts is 0; of an opened file none is.
 #![tactic(auto)]
+
 ghost use Rattle.std.specs.Prelude.{◌≡◌, ◌+◌, ◌*◌, ◌%◌, ◌^◌, ◌<◌, ◌≤◌, length, get_or};
 ghost use Rattle.model.specs.Bytes.{part};
 ghost use Rattle.model.specs.LicenceVersion.{number};
@@ -118,6 +119,7 @@ fn mark(sort: u32, flags: u64) -> u32
     1
 }
 
+#[tactic(auto, unfolding(crate::specs::Elf::data_range))]
 fn data_range(sort: u32, at: u64, n: u64) -> Extent
     ensures { result ≡ data_range sort at n }
 {

@@ -1,7 +1,6 @@
 -- `elf_records::definition` meets its contract.
 use mathlib.Core.Path.{sym, ◌∙◌}
 use borrow.Author.Tests.{eq-eqb, ne_eqb}
-use borrow.Author.Rules.{rules}
 use Rattle.elf_records.specs.Elf.{definition_of}
 use Rattle.elf_records.proofs.definition.Goals as goal
 

@@ -1,7 +1,6 @@
 -- `elf_records::eight_in` meets its contract.
 use native.Mathlib.Omega.{arith}
 use Rattle.elf_records.specs.Orders.{eight-little, eight-big}
-use borrow.Author.Rules.{rules}
 use Rattle.elf_records.proofs.eight_in.Goals as goal
 
 pub returns-in-Little : goal.returns-in-Little

@@ -3,7 +3,6 @@ use native.Mathlib.Omega.{arith}
 use mathlib.Core.Path.{sym, ◌∙◌}
 use Rattle.model.specs.LicenceVersion.{number}
 use Rattle.elf_records.specs.Orders.{four-big}
-use borrow.Author.Rules.{rules}
 use Rattle.elf_records.proofs.four_in.Goals as goal
 
 pub returns-in-Little : goal.returns-in-Little

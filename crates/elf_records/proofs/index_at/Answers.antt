@@ -1,6 +1,6 @@
 -- `elf_records::index_at` meets its contract.
 use Rattle.elf_records.specs.Elf.{index_at}
-use lib.ListN.{length, get_or-eq_default}
+use lib.ListN.{get_or-eq_default}
 use borrow.Author.Rules.{rules}
 use Rattle.elf_records.proofs.index_at.Goals as goal
 

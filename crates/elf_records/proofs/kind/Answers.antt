@@ -1,5 +1,5 @@
 -- `elf_records::kind` meets its contract.
-use borrow.Author.Tests.{eq-eqb, ne_eqb, le-leb, lt-leb}
+use borrow.Author.Tests.{eq-eqb, ne_eqb}
 use Rattle.elf_records.specs.Elf.{kind_of_info}
 use Rattle.elf_records.proofs.kind.Goals as goal
 

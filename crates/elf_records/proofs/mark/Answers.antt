@@ -1,5 +1,5 @@
 -- `elf_records::mark` meets its contract.
-use borrow.Author.Tests.{eq-eqb, ne_eqb, le-leb, lt-leb}
+use borrow.Author.Tests.{eq-eqb, ne_eqb}
 use Rattle.elf_records.specs.Elf.{mark_of}
 use Rattle.elf_records.proofs.mark.Goals as goal
 

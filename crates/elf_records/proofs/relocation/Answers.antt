@@ -1,6 +1,5 @@
 -- `elf_records::relocation` meets its contract.
 use Rattle.elf_records.specs.Elf.{relocation_symbol_at, elf_relocation}
-use borrow.Author.Rules.{rules}
 use Rattle.elf_records.proofs.relocation.Goals as goal
 
 pub returns : goal.returns

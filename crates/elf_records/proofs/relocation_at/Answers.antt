@@ -1,6 +1,5 @@
 -- `elf_records::relocation_at` meets its contract.
 use native.Mathlib.Omega.{arith}
-use borrow.Author.Rules.{rules}
 use Rattle.elf_records.proofs.relocation_at.Goals as goal
 
 pub returns : goal.returns

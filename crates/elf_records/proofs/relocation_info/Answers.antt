@@ -1,5 +1,4 @@
 -- `elf_records::relocation_info` meets its contract.
-use borrow.Author.Rules.{rules}
 use Rattle.elf_records.proofs.relocation_info.Goals as goal
 
 pub returns : goal.returns

@@ -1,6 +1,5 @@
 -- `elf_records::relocation_offset` meets its contract.
 use Rattle.elf_records.specs.Elf.{relocation_offset_at}
-use borrow.Author.Rules.{rules}
 use Rattle.elf_records.proofs.relocation_offset.Goals as goal
 
 pub returns : goal.returns

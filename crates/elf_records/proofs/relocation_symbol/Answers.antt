@@ -1,6 +1,5 @@
 -- `elf_records::relocation_symbol` meets its contract.
 use Rattle.elf_records.specs.Elf.{relocation_symbol_at}
-use borrow.Author.Rules.{rules}
 use Rattle.elf_records.proofs.relocation_symbol.Goals as goal
 
 pub returns : goal.returns

@@ -2,7 +2,6 @@
 use Prim.Native.Nat.{◌+◌, ◌*◌}
 use Rattle.elf_records.specs.Elf.{index_at, mark_of, data_range, num, header_at, elf_section}
 use mathlib.Core.Path.{◌≡◌, ◌∙◌}
-use borrow.Author.Rules.{rules}
 use Rattle.elf_records.proofs.section.Goals as goal
 
 pub returns : goal.returns

@@ -1,9 +1,8 @@
 -- `elf_records::symbol` meets its contract.
-use Prim.Native.Nat.{◌+◌, ◌*◌}
+use Prim.Native.Nat.{◌+◌}
 use lib.ListN.{get_or}
 use Rattle.elf_records.specs.Elf.{kind_of_info, definition_of, num, entry_at, symbol_section_at, elf_symbol}
 use mathlib.Core.Path.{◌≡◌, ◌∙◌}
-use borrow.Author.Rules.{rules}
 use Rattle.elf_records.proofs.symbol.Goals as goal
 
 pub returns : goal.returns

@@ -1,6 +1,5 @@
 -- `elf_records::symbol_address` meets its contract.
 use Rattle.elf_records.specs.Elf.{symbol_address_at}
-use borrow.Author.Rules.{rules}
 use Rattle.elf_records.proofs.symbol_address.Goals as goal
 
 pub returns : goal.returns

@@ -1,6 +1,5 @@
 -- `elf_records::symbol_name` meets its contract.
 use Rattle.elf_records.specs.Elf.{symbol_name_at}
-use borrow.Author.Rules.{rules}
 use Rattle.elf_records.proofs.symbol_name.Goals as goal
 
 pub returns : goal.returns

@@ -1,5 +1,5 @@
 -- `elf_records::symbol_or_none` meets its contract.
-use borrow.Author.Tests.{eq-eqb, ne_eqb, le-leb, lt-leb}
+use borrow.Author.Tests.{eq-eqb, ne_eqb}
 use Rattle.elf_records.specs.Elf.{symbol_or_none}
 use Rattle.elf_records.proofs.symbol_or_none.Goals as goal
 

@@ -1,6 +1,5 @@
 -- `elf_records::symbol_section` meets its contract.
 use Rattle.elf_records.specs.Elf.{symbol_section_at}
-use borrow.Author.Rules.{rules}
 use Rattle.elf_records.proofs.symbol_section.Goals as goal
 
 pub returns : goal.returns

@@ -1,5 +1,4 @@
 -- `elf_records::target_symbol` meets its contract.
-use borrow.Author.Rules.{rules}
 use Rattle.elf_records.proofs.target_symbol.Goals as goal
 
 pub returns : goal.returns

@@ -1,7 +1,6 @@
 -- `elf_records::two` meets its contract.
 use native.Mathlib.Omega.{arith}
 use Rattle.elf_records.specs.Orders.{two-little, two-big}
-use borrow.Author.Rules.{rules}
 use Rattle.elf_records.proofs.two.Goals as goal
 
 pub returns-in-Little : goal.returns-in-Little

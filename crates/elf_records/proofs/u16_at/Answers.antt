@@ -1,7 +1,6 @@
 -- `elf_records::u16_at` meets its contract.
-use borrow.Author.Tests.{eq-eqb, ne_eqb, le-leb, lt-leb}
+use borrow.Author.Tests.{le-leb, lt-leb}
 use Rattle.elf_records.specs.Elf.{field_at}
-use borrow.Author.Rules.{rules}
 use Rattle.elf_records.proofs.u16_at.Goals as goal
 
 pub returns-then-p-d : goal.returns-then-p-d

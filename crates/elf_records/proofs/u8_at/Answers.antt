@@ -1,6 +1,5 @@
 -- `elf_records::u8_at` meets its contract.
-use lib.ListN.{length, get_or-eq_default}
-use borrow.Author.Rules.{rules}
+use lib.ListN.{get_or-eq_default}
 use Rattle.elf_records.proofs.u8_at.Goals as goal
 
 pub returns-else-p-d : goal.returns-else-p-d

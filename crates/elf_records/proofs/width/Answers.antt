@@ -1,5 +1,5 @@
 -- `elf_records::width` meets its contract.
-use borrow.Author.Tests.{eq-eqb, ne_eqb, le-leb, lt-leb}
+use borrow.Author.Tests.{eq-eqb, ne_eqb}
 use Rattle.elf_records.specs.Elf.{width_of}
 use Rattle.elf_records.proofs.width.Goals as goal
 
