@@ -1,5 +1,6 @@
 // The licence and the kernel version that an object asks for.
 #![tactic(auto)]
+
 ghost use Rattle.std.specs.Prelude.{◌≡◌, [], ◌∷◌, ◌+◌, ◌<◌, ◌≤◌, ◌^◌};
 ghost use Rattle.model.specs.Bytes.{little};
 ghost use Rattle.model.specs.LicenceVersion.{parse_license, number, parse_version};

@@ -1,13 +1,12 @@
 -- `license::parse_license` meets its contract: the run stands at byte k, and a zero before the last byte is one from k on (`zero_among`).
 use mathlib.Core.Path.{◌≡◌, sym, ap, ◌∙◌}
 use mathlib.Core.Bool.{false}
-use Prim.Native.Nat.{ℕ, ◌≤◌, ◌+◌, ◌-◌}
+use Prim.Native.Nat.{ℕ, ◌+◌, ◌-◌}
 use lib.ListN.{get_or}
 use Rattle.model.specs.LicenceVersion.{has_zero}
 use Rattle.stream.specs.Stream.{byte_at, bytes_at}
-use Rattle.stream.specs.Run.{run_at, run-byte, run-next, run-one}
-use Rattle.license.specs.Zeros.{zero_among, front-start, front-zero, front-more, front-end, license-short, license-zero, license-closed, license-open}
-use borrow.Author.Rules.{rules}
+use Rattle.stream.specs.Run.{run-byte, run-next, run-one}
+use Rattle.license.specs.Zeros.{front-start, front-zero, front-more, front-end, license-short, license-zero, license-closed, license-open}
 use native.Mathlib.Omega.{arith}
 use Rattle.license.proofs.parse_license.Goals as goal
 use Rattle.license.proofs.parse_license.Goals.{After-byte-2, After-loop-k, At-loop-k}
@@ -62,7 +61,9 @@ final : (c : After-byte-2)
 final c =
     let a = c.args in
     let e : c.loop-k.k ≡ a.n - 1 = omega arith in
-    c.byte-2.ensures ∙ read c ∙ ap (λ (k : ℕ). byte_at a.d.now a.gap (a.at + k)) e
+    c.byte-2.ensures
+    ∙ run-byte a.d.now a.gap (a.at + c.loop-k.k) c.loop-k.run c.loop-k.invariant.1
+    ∙ ap (λ (k : ℕ). byte_at a.d.now a.gap (a.at + k)) e
 
 pub returns-then-byte-eq0-2 : goal.returns-then-byte-eq0-2
 returns-then-byte-eq0-2 c =

@@ -1,13 +1,9 @@
-use mathlib.Core.Path.{◌≡◌, sym, ap, ◌∙◌}
-use mathlib.Core.Bool.{false}
-use Prim.Native.Nat.{ℕ, ◌≤◌, ◌+◌, ◌-◌}
-use lib.ListN.{get_or}
+use mathlib.Core.Path.{◌≡◌}
+use Prim.Native.Nat.{◌≤◌, ◌+◌, ◌-◌}
 use Rattle.model.specs.LicenceVersion.{has_zero}
-use Rattle.stream.specs.Stream.{byte_at, bytes_at}
-use Rattle.stream.specs.Run.{run_at, run-byte, run-next, run-one}
-use Rattle.license.specs.Zeros.{zero_among, front-start, front-zero, front-more, front-end, license-short, license-zero, license-closed, license-open}
-use borrow.Author.Rules.{rules}
-use native.Mathlib.Omega.{arith}
+use Rattle.stream.specs.Stream.{bytes_at}
+use Rattle.stream.specs.Run.{run_at}
+use Rattle.license.specs.Zeros.{zero_among}
 use Rattle.license.proofs.parse_license.Given as goal
 
 abbrev pub invariant-loop-k : goal.invariant-loop-k

@@ -4,7 +4,6 @@ use native.Mathlib.Omega.{arith}
 use Rattle.model.specs.LicenceVersion.{number}
 use Rattle.stream.specs.Stream.{bytes_at}
 use Rattle.license.specs.Four.{four_bytes, version-other, version-any, version-told}
-use borrow.Author.Rules.{rules}
 use Rattle.license.proofs.parse_version.Goals as goal
 use Rattle.license.proofs.parse_version.Goals.{After-read_u32-v}
 

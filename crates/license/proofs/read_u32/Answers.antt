@@ -1,6 +1,5 @@
 -- `license::read_u32` meets its contract: by the byte order; `reverse` of four bytes computes.
 use Rattle.model.specs.LicenceVersion.{number}
-use borrow.Author.Rules.{rules}
 use Rattle.license.proofs.read_u32.Goals as goal
 
 pub returns-in-Little : goal.returns-in-Little
