@@ -1,5 +1,6 @@
 // The seven words of a map, from its record or for a data section.
 #![tactic(auto)]
+
 ghost use Rattle.std.specs.Prelude.{◌≡◌, ◌+◌, ◌*◌, ◌<◌, ◌≤◌, ◌^◌, get_or};
 ghost use Rattle.model.specs.Bytes.{u32 as u32_at};
 ghost use Rattle.model.specs.Contents.{words_of, invalid_map_definition, data_words};

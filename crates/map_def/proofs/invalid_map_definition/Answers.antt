@@ -1,7 +1,6 @@
 -- `map_def::invalid_map_definition` meets its contract: the pinning is read only where the size is enough.
 use borrow.Author.Tests.{lt-ltb, le-ltb}
 use Rattle.model.specs.Contents.{invalid_map_definition}
-use borrow.Author.Rules.{rules}
 use Rattle.map_def.proofs.invalid_map_definition.Goals as goal
 
 pub returns-then-size-lt-MINIMUM_MAP_SIZE : goal.returns-then-size-lt-MINIMUM_MAP_SIZE

@@ -1,8 +1,8 @@
 -- `map_def::parse_map_def` meets its contract. The loop's invariant: the words passed are the record's, and the others are 0.
 use mathlib.Core.Path.{◌≡◌, refl, ap, ◌∙◌}
-use mathlib.Core.List.{List, ◌++◌, append-nil}
-use Prim.Native.Nat.{ℕ, ◌≤◌, ◌-◌}
-use lib.ListN.{drop, replicate, length, length-set}
+use mathlib.Core.List.{List, append-nil}
+use Prim.Native.Nat.{ℕ}
+use lib.ListN.{replicate, length-set}
 use Rattle.lists.specs.Tab.{tab, tab-set}
 use Rattle.stream.specs.Stream.{bytes_at}
 use Rattle.map_def.specs.Record.{word_of, words-tab}

@@ -1,12 +1,10 @@
-use mathlib.Core.Path.{◌≡◌, refl, ap, ◌∙◌}
-use mathlib.Core.List.{List, ◌++◌, append-nil}
-use Prim.Native.Nat.{ℕ, ◌≤◌, ◌-◌}
-use lib.ListN.{drop, replicate, length, length-set}
-use Rattle.lists.specs.Tab.{tab, tab-set}
+use mathlib.Core.Path.{◌≡◌}
+use mathlib.Core.List.{◌++◌}
+use Prim.Native.Nat.{◌≤◌, ◌-◌}
+use lib.ListN.{drop, length}
+use Rattle.lists.specs.Tab.{tab}
 use Rattle.stream.specs.Stream.{bytes_at}
-use Rattle.map_def.specs.Record.{word_of, words-tab}
-use borrow.Author.Rules.{rules}
-use native.Mathlib.Omega.{arith}
+use Rattle.map_def.specs.Record.{word_of}
 use Rattle.map_def.proofs.parse_map_def.Given as goal
 
 abbrev pub invariant-loop-k : goal.invariant-loop-k

@@ -1,7 +1,6 @@
 -- `map_def::record_byte` meets its contract: inside the record it is the stream's byte, and past it `get_or` answers 0.
 use mathlib.Core.Path.{sym, ◌∙◌}
 use Rattle.map_def.specs.Record.{get_or-bytes, past_bytes}
-use borrow.Author.Rules.{rules}
 use Rattle.map_def.proofs.record_byte.Goals as goal
 
 pub returns-then-k-n : goal.returns-then-k-n

@@ -1,7 +1,6 @@
 -- `map_def::word` meets its contract: a number of four bytes, of which those past the record are 0.
 use mathlib.Core.Path.{◌∙◌}
 use Rattle.encoding.specs.Little.{little-four}
-use borrow.Author.Rules.{rules}
 use Rattle.map_def.proofs.word.Goals as goal
 
 pub returns : goal.returns
