@@ -2,7 +2,6 @@
 use Rattle.std.specs.Prelude.{◌≡◌, refl, Bool, true, false, cond, ◌&&◌, not, List, [], ℕ, zero, suc, ◌+◌, eqb, ltb}
 use Rattle.std.proofs.Common.{sym, arith, lt-ltb}
 use Rattle.lists.specs.Tab.{tab}
-use Rattle.model.specs.declared.Extent.{Extent}
 use Rattle.object_view.specs.declared.View.{View}
 use Rattle.model.specs.declared.SectionRecord.{SectionRecord}
 use Rattle.model.specs.declared.SymbolRecord.{SymbolRecord}

@@ -1,5 +1,6 @@
 // What an object's records stand for: the kind of a section, which symbols are programs or defined text, and where code begins.
 #![tactic(auto)]
+
 ghost use Rattle.std.specs.Prelude.{◌≡◌};
 ghost use Rattle.model.specs.Refusals.{no_symbol};
 ghost use Rattle.model.specs.SectionKind.{kind_of};

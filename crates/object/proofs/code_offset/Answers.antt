@@ -4,7 +4,6 @@ use mathlib.Core.Bool.{cond}
 use Prim.Native.Nat.{◌-◌}
 use native.Mathlib.Omega.{arith}
 use Rattle.object.specs.Offset.{record_offset, code_offset, code-offset}
-use borrow.Author.Rules.{rules}
 use Rattle.object.proofs.code_offset.Goals as goal
 use Rattle.object.proofs.code_offset.Goals.{After-is_program}
 
