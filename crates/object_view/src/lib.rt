@@ -1,5 +1,6 @@
 // How an opened object lies in the bytes that were given, and which index its records have for none.
 #![tactic(auto)]
+
 ghost use Rattle.std.specs.Prelude.{◌≡◌};
 ghost use Rattle.object_view.specs.NoIndex.{is_none};
 
