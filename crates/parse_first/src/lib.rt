@@ -1,5 +1,6 @@
 // Number 4 by one look at a section's range; the licence and the version: where they stand, and numbers 5 to 7.
 #![tactic(auto)]
+
 ghost use Rattle.std.specs.Prelude.{◌≡◌, cond, ◌++◌, ◌+◌, ◌≤◌, length, drop};
 ghost use Rattle.std.proofs.Math.Option.{none};
 ghost use Rattle.lists.specs.Tab.{tab};
@@ -52,6 +53,7 @@ fn is_word(d: &[u8], v: View, name: Extent, word: &[u8]) -> bool
 }
 
 // What was found before section i, else i where it is named so.
+#[tactic(auto, unfolding(crate::specs::Named::found_or))]
 fn found_or(found: Found, named: bool, i: u32) -> Found
     ensures { result ≡ found_or found named i }
 {

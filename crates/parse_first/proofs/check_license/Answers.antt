@@ -5,7 +5,6 @@ use Rattle.object.specs.Checked.{checked_of}
 use Rattle.object.specs.View.{section_from}
 use Rattle.parse_first.specs.Targets.{reaches-untargeted}
 use Rattle.parse_first.specs.LicenceVersion.{licence-four, licence-parsed}
-use borrow.Author.Rules.{rules}
 use Rattle.parse_first.proofs.check_license.Goals as goal
 use Rattle.parse_first.proofs.check_license.Goals.{After-untargeted}
 

@@ -1,18 +1,17 @@
 -- `parse_first::find_named` meets its contract: the cursor is past as many sections as were looked at.
 use mathlib.Core.Path.{◌≡◌, sym, ap, ◌∙◌}
-use Prim.Native.Nat.{◌+◌, ◌-◌, ◌<◌, ◌≤◌}
+use Prim.Native.Nat.{◌+◌, ◌<◌}
 use native.Mathlib.Omega.{arith}
 use Rattle.records.specs.Records.{cursor, step-record, step_end}
-use Rattle.parse_first.specs.Named.{named_below, with_section, named_none, named-next, named-all}
-use borrow.Author.Rules.{rules}
+use Rattle.parse_first.specs.Named.{named_below, named_none, named-next, named-all}
 use Rattle.parse_first.proofs.find_named.Goals as goal
 use Rattle.parse_first.proofs.find_named.Goals.{In-Record}
 
 -- the step that was taken
 moved : (c : In-Record) →
-    (c.i-1.given.0.0 ≡ c.loop-i.c.at) × (c.i-1.given.0.1.0 ≡ cursor (c.loop-i.c.at + 1) c.loop-i.c.end) × (c.loop-i.c.at < c.loop-i.c.end)
+    (c.in-Record.i ≡ c.loop-i.c.at) × (c.in-Record.next ≡ cursor (c.loop-i.c.at + 1) c.loop-i.c.end) × (c.loop-i.c.at < c.loop-i.c.end)
 moved c =
-    step-record c.loop-i.c c.i-1.given.0.0 c.i-1.given.0.1.0 (sym c.next.ensures ∙ c.in-Record.is)
+    step-record c.loop-i.c c.in-Record.i c.in-Record.next (sym c.next.ensures ∙ c.in-Record.is)
 
 pub loop-i-init : goal.loop-i-init
 loop-i-init c =

@@ -1,9 +1,6 @@
-use mathlib.Core.Path.{◌≡◌, sym, ap, ◌∙◌}
-use Prim.Native.Nat.{◌+◌, ◌-◌, ◌<◌, ◌≤◌}
-use native.Mathlib.Omega.{arith}
-use Rattle.records.specs.Records.{cursor, step-record, step_end}
-use Rattle.parse_first.specs.Named.{named_below, with_section, named_none, named-next, named-all}
-use borrow.Author.Rules.{rules}
+use mathlib.Core.Path.{◌≡◌}
+use Prim.Native.Nat.{◌-◌, ◌≤◌}
+use Rattle.parse_first.specs.Named.{named_below}
 use Rattle.parse_first.proofs.find_named.Given as goal
 
 abbrev pub invariant-loop-i : goal.invariant-loop-i

@@ -4,7 +4,6 @@ use mathlib.Core.Option.{none}
 use Rattle.model.specs.Bytes.{ascii}
 use Rattle.model.specs.Refusals.{licence_refusal}
 use Rattle.parse_first.specs.Named.{number_named, found_nothing, found_at, made-of-named, number-below}
-use borrow.Author.Rules.{rules}
 use Rattle.parse_first.proofs.license_refusal.Goals as goal
 
 pub returns-in_default : goal.returns-in_default
@@ -16,12 +15,12 @@ returns-in_default c =
 pub check_license-requires : goal.check_license-requires
 check_license-requires c =
     let a = c.args in
-    let o = found_at (number_named a.d.now a.t.now a.v (ascii "license")) c.found-1.given.0.0 (sym c.requires.0 ∙ c.in-At.is) in
-    let l = c.requires.2.relocations-inside c.found-1.given.0.0 (number-below a.d.now a.t.now a.v (ascii "license") c.found-1.given.0.0 o) in
+    let o = found_at (number_named a.d.now a.t.now a.v (ascii "license")) c.in-At.i (sym c.requires.0 ∙ c.in-At.is) in
+    let l = c.requires.2.relocations-inside c.in-At.i (number-below a.d.now a.t.now a.v (ascii "license") c.in-At.i o) in
     (c.requires.1, rw c.section.ensures l)
 
 pub returns : goal.returns
 returns c =
     let a = c.args in
-    let o = found_at (number_named a.d.now a.t.now a.v (ascii "license")) c.found-1.given.0.0 (sym c.requires.0 ∙ c.in-At.is) in
+    let o = found_at (number_named a.d.now a.t.now a.v (ascii "license")) c.in-At.i (sym c.requires.0 ∙ c.in-At.is) in
     rw (made-of-named a.d.now a.t.now a.v (ascii "license") none licence_refusal, o, c.check_license.ensures, c.section.ensures)

@@ -1,6 +1,5 @@
 -- `parse_first::nearer` meets its contract: each arm by its test.
 use mathlib.Core.Path.{sym, ◌∙◌}
-use borrow.Author.Rules.{rules}
 use Rattle.parse_first.proofs.nearer.Goals as goal
 
 pub returns-then-is_no_symbol : goal.returns-then-is_no_symbol

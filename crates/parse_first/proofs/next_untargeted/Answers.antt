@@ -1,9 +1,8 @@
 -- `parse_first::next_untargeted` meets its contract: from k on the table is filled, and `nearest` is what stands at k.
 use mathlib.Core.Path.{◌≡◌, refl, sym, ap, ◌∙◌}
-use Prim.Native.Nat.{ℕ, ◌≤◌, ◌-◌}
+use Prim.Native.Nat.{ℕ, ◌-◌}
 use native.Mathlib.Omega.{arith}
-use borrow.Author.Rules.{rules}
-use lib.ListN.{length, length-set}
+use lib.ListN.{length-set}
 use Rattle.parse_first.specs.Targets.{next_untargeted, next-end, next-before, filled_from, filled_none, filled-before, filled-all}
 use Rattle.parse_first.proofs.next_untargeted.Goals as goal
 

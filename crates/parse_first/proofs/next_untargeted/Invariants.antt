@@ -1,9 +1,7 @@
-use mathlib.Core.Path.{◌≡◌, refl, sym, ap, ◌∙◌}
-use Prim.Native.Nat.{ℕ, ◌≤◌, ◌-◌}
-use native.Mathlib.Omega.{arith}
-use borrow.Author.Rules.{rules}
-use lib.ListN.{length, length-set}
-use Rattle.parse_first.specs.Targets.{next_untargeted, next-end, next-before, filled_from, filled_none, filled-before, filled-all}
+use mathlib.Core.Path.{◌≡◌}
+use Prim.Native.Nat.{◌≤◌}
+use lib.ListN.{length}
+use Rattle.parse_first.specs.Targets.{next_untargeted, filled_from}
 use Rattle.parse_first.proofs.next_untargeted.Given as goal
 
 abbrev pub invariant-loop-k : goal.invariant-loop-k

@@ -3,7 +3,6 @@ use Prim.Native.Nat.{◌≤◌, ◌<◌}
 use native.Mathlib.Omega.{arith}
 use borrow.Author.Tests.{lt-ltb, le-ltb}
 use Rattle.parse_first.specs.Targets.{reaches}
-use borrow.Author.Rules.{rules}
 use Rattle.parse_first.proofs.untargeted.Goals as goal
 
 pub returns-then-n-eq0 : goal.returns-then-n-eq0

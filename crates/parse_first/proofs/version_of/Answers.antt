@@ -8,7 +8,6 @@ use Rattle.model.specs.LicenceVersion.{version_in}
 use Rattle.object.specs.View.{section_in}
 use Rattle.parse_first.specs.Named.{number_named, found_nothing, found_at}
 use Rattle.parse_first.specs.LicenceVersion.{version-by-number, version-kept}
-use borrow.Author.Rules.{rules}
 use Rattle.parse_first.proofs.version_of.Goals as goal
 
 pub returns-in_default : goal.returns-in_default
@@ -20,11 +19,11 @@ returns-in_default c =
 pub returns-in-Version : goal.returns-in-Version
 returns-in-Version c =
     let a = c.args in
-    let k = c.found-1.given.0.0 in
+    let k = c.in-At.i in
     let o = found_at (number_named a.d.now a.t.now a.v (ascii "version")) k (sym c.requires.0 ∙ c.in-At.is) in
     let p = version-kept a.d.now a.t.now a.v k o c.requires.1 in
     let q = (rw c.section.ensures at c.parsed_version.ensures) ∙ p in
-    let e : ParsedVersion.Version c.version-1.given.0.0 ≡ ParsedVersion.Version (version_in a.v.order (section_in a.d.now a.t.now a.v k).bytes) =
+    let e : ParsedVersion.Version c.in-Version.version ≡ ParsedVersion.Version (version_in a.v.order (section_in a.d.now a.t.now a.v k).bytes) =
     sym c.in-Version.is ∙ q
     in
     rw (version-by-number a.d.now a.t.now a.v, o) (cc)
@@ -32,7 +31,7 @@ returns-in-Version c =
 pub returns-in-InvalidKernelVersion : goal.returns-in-InvalidKernelVersion
 returns-in-InvalidKernelVersion c =
     let a = c.args in
-    let k = c.found-1.given.0.0 in
+    let k = c.in-At.i in
     let o = found_at (number_named a.d.now a.t.now a.v (ascii "version")) k (sym c.requires.0 ∙ c.in-At.is) in
     let p = version-kept a.d.now a.t.now a.v k o c.requires.1 in
     let q = (rw c.section.ensures at c.parsed_version.ensures) ∙ p in

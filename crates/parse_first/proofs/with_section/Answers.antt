@@ -1,10 +1,8 @@
 -- `parse_first::with_section` meets its contract: a name of another length is none of the two.
 use mathlib.Core.Path.{◌≡◌, sym}
 use native.Mathlib.Omega.{arith}
-use Rattle.records.specs.View.{section_at}
 use Rattle.object.specs.View.{section_from}
 use Rattle.parse_first.specs.Named.{named_other}
-use borrow.Author.Rules.{rules}
 use Rattle.parse_first.proofs.with_section.Goals as goal
 
 pub returns-then-name-ne7 : goal.returns-then-name-ne7
@@ -13,12 +11,6 @@ returns-then-name-ne7 c =
     let h : c.section_name-name.result.length ≡ 7 → ⊥ = λ e. omega arith in
     sym (named_other a.d.now a.t.now a.v a.i a.found (rw c.section_name-name.ensures at h))
 
--- NO GOAL: slice-aggregate-is-word : tie.Need-slice-aggregate-is-word
--- NO GOAL: slice-aggregate-is-word c = search rules
-
--- NO GOAL: slice-aggregate-is-word-2 : tie.Need-slice-aggregate-is-word-2
--- NO GOAL: slice-aggregate-is-word-2 c = search rules
-
 pub returns : goal.returns
 unfolding section_from
-returns c = rw (c.found_or-2.ensures, c.found_or.ensures, c.is_word-is_version.ensures, c.is_IsWord.ensures, c.section_name-name.ensures)
+returns c = rw (c.found_or-2.ensures, c.found_or.ensures, c.is_word-is_version.ensures, c.is_word-is_license.ensures, c.section_name-name.ensures)
