@@ -7,24 +7,8 @@ use Rattle.model.specs.Bytes.{same, starts_with}
 use Rattle.model.specs.SectionKind.{from_name}
 use Rattle.stream.specs.Stream.{bytes_at}
 use Rattle.section_kind.specs.Names.{bytes-cons, no_second}
-use borrow.Author.Rules.{rules}
 use Rattle.section_kind.proofs.from_dotted.Goals as goal
 use Rattle.section_kind.proofs.from_dotted.Goals.{After-byte_at}
-
--- NO GOAL: slice-aggregate-prefixed : tie.Need-slice-aggregate-prefixed
--- NO GOAL: slice-aggregate-prefixed c = search rules
-
--- NO GOAL: slice-aggregate-prefixed-2 : tie.Need-slice-aggregate-prefixed-2
--- NO GOAL: slice-aggregate-prefixed-2 c = search rules
-
--- NO GOAL: slice-aggregate-prefixed-3 : tie.Need-slice-aggregate-prefixed-3
--- NO GOAL: slice-aggregate-prefixed-3 c = search rules
-
--- NO GOAL: slice-aggregate-prefixed-4 : tie.Need-slice-aggregate-prefixed-4
--- NO GOAL: slice-aggregate-prefixed-4 c = search rules
-
--- NO GOAL: slice-aggregate-prefixed-5 : tie.Need-slice-aggregate-prefixed-5
--- NO GOAL: slice-aggregate-prefixed-5 c = search rules
 
 -- the name by its first two bytes
 name : (c : After-byte_at)
@@ -65,5 +49,4 @@ returns-in-66 c = rw (c.from_btf.ensures, name (goal.at.returns-in-66 c).After-b
 
 pub returns-in_default : goal.returns-in_default
 returns-in_default c =
-    let r = c.in_default.rest in
-    rw (name (goal.at.returns-in_default c).After-byte_at) (sym (no_second _ _ r.0.0.0.0.0.1 r.0.0.0.0.1 r.0.0.0.1 r.0.0.1 r.0.1 r.1))
+    rw (name (goal.at.returns-in_default c).After-byte_at) (sym (no_second _ _ (λ e. omega arith) (λ e. omega arith) (λ e. omega arith) (λ e. omega arith) (λ e. omega arith) (λ e. omega arith)))

@@ -7,22 +7,12 @@ use Rattle.model.specs.Bytes.{same, starts_with}
 use Rattle.model.specs.SectionKind.{from_name}
 use Rattle.stream.specs.Stream.{bytes_at, length-bytes}
 use Rattle.section_kind.specs.Names.{bytes-cons, short, no-first}
-use borrow.Author.Rules.{rules}
 use Rattle.section_kind.proofs.from_name.Goals as goal
 use Rattle.section_kind.proofs.from_name.Goals.{After-byte_at}
 
 pub returns-then-n-lt4 : goal.returns-then-n-lt4
 returns-then-n-lt4 c =
     let a = c.args in sym (short (bytes_at a.d.now a.gap a.at a.n) (rw length-bytes (omega arith)))
-
--- NO GOAL: slice-aggregate-prefixed : tie.Need-slice-aggregate-prefixed
--- NO GOAL: slice-aggregate-prefixed c = search rules
-
--- NO GOAL: slice-aggregate-prefixed-2 : tie.Need-slice-aggregate-prefixed-2
--- NO GOAL: slice-aggregate-prefixed-2 c = search rules
-
--- NO GOAL: slice-aggregate-prefixed-3 : tie.Need-slice-aggregate-prefixed-3
--- NO GOAL: slice-aggregate-prefixed-3 c = search rules
 
 -- the name by its first byte
 name : (c : After-byte_at)
@@ -44,4 +34,5 @@ unfolding from_name starts_with same
 returns-in-109 c = rw (c.prefixed-in-109.ensures, name (goal.at.returns-in-109 c).After-byte_at, c.in-109.is)
 
 pub returns-in_default : goal.returns-in_default
-returns-in_default c = let r = c.in_default.rest in rw (name (goal.at.returns-in_default c).After-byte_at) (sym (no-first _ _ r.0.0.0.1 r.0.0.1 r.0.1 r.1))
+returns-in_default c =
+    rw (name (goal.at.returns-in_default c).After-byte_at) (sym (no-first _ _ (λ e. omega arith) (λ e. omega arith) (λ e. omega arith) (λ e. omega arith)))

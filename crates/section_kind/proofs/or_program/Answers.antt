@@ -1,33 +1,25 @@
 -- `section_kind::or_program` meets its contract: by the kind, then by the text mark and the size.
-use mathlib.Core.Path.{◌≡◌, refl}
-use mathlib.Core.Bool.{Bool}
-use mathlib.Core.List.{List, [], ◌∷◌}
-use mathlib.Core.Logic.{⊎_elim}
-use Prim.Native.Nat.{ℕ}
-use types.Run.{OneOf, miss}
-use denote.Enum.Declared.{tag_of}
-use Rattle.model.specs.contracts.EbpfSectionKind.{the_type}
+use Rattle.std.proofs.Common.{◌≡◌, ◌≢◌, refl, ℕ, Bool, lt-ltb, le-ltb}
 use Rattle.model.specs.declared.EbpfSectionKind.{EbpfSectionKind as Kind}
 use Rattle.model.specs.SectionKind.{or_program}
-use borrow.Author.Rules.{rules}
 use Rattle.section_kind.proofs.or_program.Goals as goal
+use Rattle.section_kind.proofs.or_program.Goals.{else-text-via-then-text+else-size-gt0, else-text-via-else-text}
 
 pub returns-then-size-gt0 : goal.returns-then-size-gt0
 unfolding or_program
-returns-then-size-gt0 c =
-    rw (c.in-Undefined.is, c.if-text.true, c.if-size-gt0.true)
+returns-then-size-gt0 c = rw (c.in-Undefined.is, c.if-text.true, lt-ltb 0 c.args.size c.if-size-gt0.true)
 
 pub returns-else-text : goal.returns-else-text
 unfolding or_program
-returns-else-text c = ⊎_elim (λ w. rw (c.in-Undefined.is, w.0.true, w.1.false)) (λ w. rw (c.in-Undefined.is, w.false)) c.else-text.branch
+returns-else-text c = elim c.else-text.branch [
+  | else-text-via-then-text+else-size-gt0 w ↦ rw (c.in-Undefined.is, w.if-text.true, le-ltb 0 c.args.size w.if-size-gt0.false)
+  | else-text-via-else-text w ↦ rw (c.in-Undefined.is, w.if-text.false)
+]
 
--- the tags of the other kinds, which stay
-abbrev others : List ℕ
-others = 1 ∷ 2 ∷ 3 ∷ 4 ∷ 5 ∷ 6 ∷ 7 ∷ 8 ∷ 9 ∷ 10 ∷ 11 ∷ []
-
-kept : (text : Bool) (size : ℕ) (k : Kind) → OneOf others (tag_of the_type k) → k ≡ or_program text size k
+-- the other kinds stay
+kept : (text : Bool) (size : ℕ) (k : Kind) → (k ≢ Kind.Undefined) → k ≡ or_program text size k
 unfolding or_program
-kept text size Kind.Undefined h = absurd (miss others 0 tt h)
+kept text size Kind.Undefined h = absurd (h refl)
 kept text size Kind.Maps h = refl
 kept text size Kind.BtfMaps h = refl
 kept text size Kind.Program h = refl
@@ -41,4 +33,4 @@ kept text size Kind.License h = refl
 kept text size Kind.Version h = refl
 
 pub returns-in_default : goal.returns-in_default
-returns-in_default c = let a = c.args in kept a.text a.size a.kind c.in_default.keys2
+returns-in_default c = kept c.args.text c.args.size c.args.kind c.in_default.not-Undefined
