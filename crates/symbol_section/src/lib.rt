@@ -1,6 +1,7 @@
 // The section that an index names and the one that a symbol lies in: by a guess,
 // since the records' indexes usually follow one another, then a binary search, since they rise.
 #![tactic(auto)]
+
 ghost use Rattle.std.specs.Prelude.{◌≡◌, ◌-◌};
 ghost use Rattle.records.specs.View.{section_at, symbol_at};
 ghost use Rattle.records.specs.Readable.{Readable};

@@ -2,7 +2,6 @@
 use mathlib.Core.Path.{ap}
 use native.Mathlib.Omega.{arith}
 use Rattle.model.specs.declared.SectionIndex.{SectionIndex}
-use borrow.Author.Rules.{rules}
 use Rattle.symbol_section.proofs.guess.Goals as goal
 
 pub returns-then-first-k : goal.returns-then-first-k

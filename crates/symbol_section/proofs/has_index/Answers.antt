@@ -1,6 +1,5 @@
 -- `symbol_section::has_index` meets its contract: each arm by its test of the number.
 use borrow.Author.Tests.{lt-ltb, le-ltb}
-use borrow.Author.Rules.{rules}
 use Rattle.symbol_section.proofs.has_index.Goals as goal
 
 pub returns-then-i-v : goal.returns-then-i-v

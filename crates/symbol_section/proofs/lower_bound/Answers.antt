@@ -1,8 +1,7 @@
 -- `symbol_section::lower_bound` meets its contract: below `low` each index is below k, and from `high` on none is; each turn's record decides for those below it or above.
-use Prim.Native.Nat.{ℕ, ◌+◌, ◌-◌, ◌/◌, ◌<◌, ◌≤◌}
+use Prim.Native.Nat.{◌+◌, ◌-◌, ◌/◌, ◌<◌, ◌≤◌}
 use mathlib.Core.Path.{ap}
 use native.Mathlib.Omega.{arith}
-use borrow.Author.Rules.{rules}
 use Rattle.model.specs.declared.SectionIndex.{SectionIndex}
 use Rattle.records.specs.View.{section_at}
 use Rattle.symbol_section.specs.Owner.{all-below, all_above}

@@ -1,10 +1,5 @@
-use Prim.Native.Nat.{ℕ, ◌+◌, ◌-◌, ◌/◌, ◌<◌, ◌≤◌}
-use mathlib.Core.Path.{ap}
-use native.Mathlib.Omega.{arith}
-use borrow.Author.Rules.{rules}
-use Rattle.model.specs.declared.SectionIndex.{SectionIndex}
+use Prim.Native.Nat.{ℕ, ◌-◌, ◌<◌, ◌≤◌}
 use Rattle.records.specs.View.{section_at}
-use Rattle.symbol_section.specs.Owner.{all-below, all_above}
 use Rattle.symbol_section.proofs.lower_bound.Given as goal
 
 abbrev pub invariant-loop-low : goal.invariant-loop-low

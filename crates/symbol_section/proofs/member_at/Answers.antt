@@ -2,7 +2,6 @@
 use mathlib.Core.Path.{sym, ap, ◌∙◌}
 use Rattle.records.specs.View.{section_at}
 use Rattle.symbol_section.specs.Owner.{home_of, home-by-record}
-use borrow.Author.Rules.{rules}
 use Rattle.symbol_section.proofs.member_at.Goals as goal
 
 pub returns : goal.returns

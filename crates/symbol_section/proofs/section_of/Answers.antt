@@ -1,7 +1,6 @@
 -- `symbol_section::section_of` meets its contract: if a record has the index, it is the first whose index is not below it.
 use mathlib.Core.Path.{sym, ◌∙◌}
 use Rattle.symbol_section.specs.Owner.{found, not_found}
-use borrow.Author.Rules.{rules}
 use Rattle.symbol_section.proofs.section_of.Goals as goal
 
 pub returns-then-has_index : goal.returns-then-has_index

@@ -1,7 +1,6 @@
 -- `symbol_section::section_of_symbol` meets its contract: no section, or the number of the owner, by a match.
 use mathlib.Core.Path.{sym, ap, ◌∙◌}
 use Rattle.symbol_section.specs.Owner.{number_of, home-none, home_some}
-use borrow.Author.Rules.{rules}
 use Rattle.symbol_section.proofs.section_of_symbol.Goals as goal
 
 pub returns-then-is_no_section : goal.returns-then-is_no_section
