@@ -1,5 +1,5 @@
 -- How many bytes a number has of a part at most.
-use Rattle.std.specs.Prelude.{◌≡◌, refl, List, [], ◌∷◌, ℕ, zero, suc, ◌+◌, ◌-◌, ◌*◌, ◌/◌, ◌<◌, ◌≤◌, length, get_or, take, drop}
+use Rattle.std.specs.Prelude.{◌≡◌, refl, List, [], ◌∷◌, ℕ, zero, suc, ◌+◌, ◌*◌, ◌/◌, ◌<◌, ◌≤◌, length, get_or, take, drop}
 use Rattle.std.proofs.Common.{ap, ◌∙◌, arith, get_or-take, length-take-le}
 use Rattle.object_view.specs.declared.View.{View}
 use Rattle.catalogue_laws.specs.Groups.{all-at}

@@ -7,7 +7,6 @@ use Rattle.model.specs.Contents.{licence_of}
 use Rattle.object.specs.View.{object_in}
 use Rattle.bytes_layout.specs.Licence.{length-by-place, licence-short}
 use Rattle.bytes_layout.specs.Held.{sections-listed, programs-listed, functions-listed, code-listed, maps-listed, own-listed, places-are}
-use borrow.Author.Rules.{rules}
 use Rattle.bytes_layout.proofs.layout.Goals as goal
 use Rattle.bytes_layout.proofs.layout.Goals.{After-license_length-sections_at}
 

@@ -1,7 +1,6 @@
 -- `bytes_layout::part_length` meets its contract: by the part.
 use Rattle.bytes_layout.specs.declared.Part.{Part}
 use Rattle.bytes_layout.specs.Bounds.{part-told}
-use borrow.Author.Rules.{rules}
 use Rattle.bytes_layout.proofs.part_length.Goals as goal
 
 pub code_length-requires : goal.code_length-requires
@@ -10,7 +9,7 @@ code_length-requires c = (c.requires.0, rw c.in-Code.is at c.requires.1)
 pub returns-in-Name : goal.returns-in-Name
 returns-in-Name c =
     let a = c.args in
-    part-told a.d.now a.t.now a.v c.requires.0 a.part (Part.Name c.part-1.given.0.0) a.j c.name_length.result c.in-Name.is c.requires.1 c.name_length.ensures.0
+    part-told a.d.now a.t.now a.v c.requires.0 a.part (Part.Name c.in-Name.which) a.j c.name_length.result c.in-Name.is c.requires.1 c.name_length.ensures.0
 
 pub returns-in-Code : goal.returns-in-Code
 returns-in-Code c =

@@ -6,11 +6,7 @@ use native.Mathlib.Omega.{arith}
 use Rattle.stream.specs.Stream.{place}
 use Rattle.records.specs.View.{gap_of}
 use Rattle.bytes_layout.specs.Licence.{licence-gpl, licence-stands, licence-length, licence-placed}
-use borrow.Author.Rules.{rules}
 use Rattle.bytes_layout.proofs.put_license.Goals as goal
-
--- NO GOAL: slice-aggregate-copy8 : tie.Need-slice-aggregate-copy8
--- NO GOAL: slice-aggregate-copy8 c = search rules
 
 pub copy8-requires : goal.copy8-requires
 copy8-requires c =
@@ -20,8 +16,8 @@ copy8-requires c =
 pub copy_stream-requires : goal.copy_stream-requires
 copy_stream-requires c =
     let a = c.args in
-    let at = c.license-1.given.0.0 in
-    let m = c.license-1.given.0.1.0 in
+    let at = c.in-Bytes.at in
+    let m = c.in-Bytes.n in
     let e = sym c.in-Bytes.is ∙ c.requires.1 in
     let p = licence-placed a.d.now a.t.now a.v at m e c.requires.0 in
     let l : at + m ≤ place (gap_of a.v) (at + m) = omega arith in
@@ -37,7 +33,7 @@ pub returns-in-Bytes : goal.returns-in-Bytes
 returns-in-Bytes c =
     let g = c.gap in
     let a = c.args in
-    let at = c.license-1.given.0.0 in
-    let m = c.license-1.given.0.1.0 in
+    let at = c.in-Bytes.at in
+    let m = c.in-Bytes.n in
     let e = sym c.in-Bytes.is ∙ c.requires.1 in
     (sym (licence-length a.d.now a.t.now a.v at m e), rw (licence-stands a.d.now a.t.now a.v at m e) (rw (zero-add m, g.ensures.0) at c.copy_stream.ensures))

@@ -1,15 +1,14 @@
 -- `bytes_layout::put_one` meets its contract: by the part.
 use native.Mathlib.Omega.{arith}
 use Rattle.bytes_names.specs.Inside.{name-fits}
-use borrow.Author.Rules.{rules}
 use Rattle.bytes_layout.proofs.put_one.Goals as goal
 
 pub put_name-requires : goal.put_name-requires
 put_name-requires c =
     let a = c.args in
-    let w = c.part-1.given in
-    let room = rw w.1 at c.requires.2 in
-    ((name-fits a.d.now a.t.now a.v c.requires.0 w.0.0 a.j (rw w.1 at c.requires.1)).placed, omega (arith, room))
+    let e = c.in-Name.is in
+    let room = rw e at c.requires.2 in
+    ((name-fits a.d.now a.t.now a.v c.requires.0 c.in-Name.which a.j (rw e at c.requires.1)).placed, omega (arith, room))
 
 pub put_code-requires : goal.put_code-requires
 put_code-requires c =

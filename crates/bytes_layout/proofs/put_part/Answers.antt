@@ -1,11 +1,8 @@
 -- `bytes_layout::put_part` meets its contract: what the numbers passed have lies in a row, and the next is laid behind it.
 use mathlib.Core.Path.{◌≡◌, refl, sym, ◌∙◌}
-use mathlib.Core.List.{◌++◌}
-use Prim.Native.Nat.{◌+◌, ◌-◌, ◌≤◌}
 use native.Mathlib.Nat.{add-zero}
 use native.Mathlib.Omega.{arith}
-use borrow.Author.Rules.{rules}
-use lib.ListN.{length, take, drop}
+use lib.ListN.{length}
 use Rattle.lists.specs.Slice.{put-none}
 use Rattle.model.specs.Bytes.{each}
 use Rattle.bytes_layout.specs.Next.{next-room, next-end, next-laid}
@@ -33,7 +30,7 @@ loop-k-preserved c =
     let p = c.put_one-o in
     let room = next-room f a.numbers.now a.at c.loop-k.k c.loop-k.o c.loop-k.invariant.2 a.n (length a.out.now) (omega arith) (omega arith) (omega arith) in (
       omega arith,
-      c.put_one-o.auto.1.1.1.1.1.0 ∙ c.loop-k.invariant.1,
+      c.put_one-o.auto.out ∙ c.loop-k.invariant.1,
       next-end f a.numbers.now a.at c.loop-k.k c.loop-k.o c.loop-k.invariant.2 p.result (omega arith) p.ensures.0,
       next-laid f a.numbers.now a.at c.loop-k.k c.loop-k.o c.loop-k.invariant.2 p.result (omega arith) p.ensures.0 a.out.now c.loop-k.out _
           (omega (arith, room)) c.loop-k.invariant.3 p.ensures.1,

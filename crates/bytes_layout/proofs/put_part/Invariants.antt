@@ -1,13 +1,8 @@
-use mathlib.Core.Path.{◌≡◌, refl, sym, ◌∙◌}
+use mathlib.Core.Path.{◌≡◌}
 use mathlib.Core.List.{◌++◌}
 use Prim.Native.Nat.{◌+◌, ◌-◌, ◌≤◌}
-use native.Mathlib.Nat.{add-zero}
-use native.Mathlib.Omega.{arith}
-use borrow.Author.Rules.{rules}
 use lib.ListN.{length, take, drop}
-use Rattle.lists.specs.Slice.{put-none}
 use Rattle.model.specs.Bytes.{each}
-use Rattle.bytes_layout.specs.Next.{next-room, next-end, next-laid}
 use Rattle.bytes_layout.specs.Listed.{part_of}
 use Rattle.bytes_layout.proofs.put_part.Given as goal
 

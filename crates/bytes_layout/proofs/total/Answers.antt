@@ -1,9 +1,6 @@
 -- `bytes_layout::total` meets its contract: the sum is the length of what the numbers passed have.
 use mathlib.Core.Path.{◌≡◌, refl, ◌∙◌}
-use Prim.Native.Nat.{◌-◌, ◌*◌, ◌≤◌}
 use native.Mathlib.Omega.{arith}
-use borrow.Author.Rules.{rules}
-use lib.ListN.{length, take}
 use Rattle.model.specs.Bytes.{each}
 use Rattle.catalogue_laws.specs.Placed.{each-longer}
 use Rattle.bytes_layout.specs.Listed.{part_of}

@@ -1,10 +1,7 @@
-use mathlib.Core.Path.{◌≡◌, refl, ◌∙◌}
+use mathlib.Core.Path.{◌≡◌}
 use Prim.Native.Nat.{◌-◌, ◌*◌, ◌≤◌}
-use native.Mathlib.Omega.{arith}
-use borrow.Author.Rules.{rules}
 use lib.ListN.{length, take}
 use Rattle.model.specs.Bytes.{each}
-use Rattle.catalogue_laws.specs.Placed.{each-longer}
 use Rattle.bytes_layout.specs.Listed.{part_of}
 use Rattle.bytes_layout.proofs.total.Given as goal
 
