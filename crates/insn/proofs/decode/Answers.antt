@@ -2,7 +2,6 @@
 use mir.Syntax.{w16, w32}
 use mir.Facts.{to_z-of_z}
 use Rattle.model.specs.Instruction.{instruction_of}
-use borrow.Author.Rules.{rules}
 use Rattle.insn.proofs.decode.Goals as goal
 
 pub returns : goal.returns

@@ -1,6 +1,5 @@
 -- `insn::next_at` meets its contract: by whether the slot is a whole one.
 use mathlib.Core.Path.{sym, ap, ◌∙◌}
-use borrow.Author.Rules.{rules}
 use Rattle.insn.specs.declared.Next.TheVariants.{Insn}
 use Rattle.insn.specs.Reading.{left-some, left-none}
 use Rattle.insn.proofs.next_at.Goals as goal

@@ -1,6 +1,5 @@
 -- `insn::passed_over` meets its contract: an instruction is told by its opcode.
 use mathlib.Core.Path.{sym, ap}
-use borrow.Author.Rules.{rules}
 use Rattle.insn.specs.Reading.{passed_over}
 use Rattle.insn.proofs.passed_over.Goals as goal
 

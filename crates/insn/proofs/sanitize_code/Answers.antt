@@ -1,67 +1,64 @@
 -- `insn::sanitize_code` meets its contract. The loop's invariant: the slots before the call are rewritten, and the rest is as it was.
-use mathlib.Core.Path.{◌≡◌, refl, sym, ap, ◌∙◌}
-use mathlib.Core.List.{List, ◌++◌}
-use Prim.Native.Nat.{ℕ, ◌+◌, ◌≤◌, ◌-◌, ◌*◌, ◌/◌}
-use lib.ListN.{length, drop}
 use native.Mathlib.Omega.{arith}
 use borrow.Author.Rules.{rules}
+use Rattle.std.proofs.Common.{◌≡◌, ◌∙◌, refl, sym, ap, ℕ, ◌+◌, ◌≤◌, ◌<◌, ◌*◌, ◌/◌, List, ◌++◌, length, drop}
+use Rattle.model.specs.Bytes.{AllBytes}
 use Rattle.encoding.specs.Code.{all-bytes}
 use Rattle.insn.specs.Sanitized.{slots, sanitized, slots-none, slots-more}
 use Rattle.insn.specs.Slot.{sanitized_at}
 use Rattle.insn.specs.Reading.{instructions_from, next_call, call_from, call-inside, calls-passed}
 use Rattle.insn.proofs.sanitize_code.Goals as goal
-use Rattle.insn.proofs.sanitize_code.Goals.{After-next_call-slot-in-loop-slot, After-sanitize_at, In-loop-slot}
 
 -- one turn: a call is rewritten, and the next one is looked for
-module _ (c : After-next_call-slot-in-loop-slot) where
-  abbrev done : After-sanitize_at
-  done = c
+module _ (entry before code : List ℕ) (slot next : ℕ)
+    (test : slot < length entry / 8)
+    (kept : length code ≡ length entry)
+    (inv : before ≡ slots slot entry ++ drop (slot * 8) entry)
+    (done : code ≡ sanitized_at before (slot * 8))
+    (to : next ≡ next_call (instructions_from code (slot + 1)) (slot + 1))
+  where
+    inside : next ≤ length entry / 8
+    inside = omega (arith, to, kept, call-inside code (slot + 1) (omega arith))
 
-  abbrev turn : In-loop-slot
-  turn = done
+    further : slot + 1 ≤ next
+    further = omega (arith, to, call_from (instructions_from code (slot + 1)) (slot + 1))
 
-  abbrev entry : List ℕ
-  entry = turn.args.code.now
+    rewritten : code ≡ slots (slot + 1) entry ++ drop ((slot + 1) * 8) entry
+    rewritten = done ∙ ap (λ (l : List ℕ). sanitized_at l (slot * 8)) inv ∙ slots-more slot entry
 
-  abbrev slot : ℕ
-  slot = turn.loop-slot.slot
-
-  abbrev code : List ℕ
-  code = done.sanitize-at.last.0
-
-  same : length code ≡ length entry
-  same = done.sanitize-at.kept.0 ∙ turn.loop-slot.invariant.1
-
-  to : c.next-call2.result ≡ next_call (instructions_from code (slot + 1)) (slot + 1)
-  to = c.next-call2.ensures
-
-  rewritten : code ≡ slots (slot + 1) entry ++ drop ((slot + 1) * 8) entry
-  rewritten = done.sanitize-at.ensures ∙ ap (λ (l : List ℕ). sanitized_at l (slot * 8)) turn.loop-slot.invariant.2 ∙ slots-more slot entry
-
-  passed : code ≡ slots c.next-call2.result entry ++ drop (c.next-call2.result * 8) entry
-  passed =
-      calls-passed entry code (all-bytes code (λ i. (c.slice-known2.given i).fits)) (slot + 1) rewritten
-      ∙ ap (λ (k : ℕ). slots k entry ++ drop (k * 8) entry) (sym to)
-
-  inside : c.next-call2.result ≤ length entry / 8
-  inside = omega (arith, to, same, call-inside code (slot + 1) (omega (arith, same, turn.loop-slot-test.true)))
-
-  further : slot + 1 ≤ c.next-call2.result
-  further = omega (arith, to, call_from (instructions_from code (slot + 1)) (slot + 1))
+    passed : AllBytes code → code ≡ slots next entry ++ drop (next * 8) entry
+    passed h = calls-passed entry code h (slot + 1) rewritten ∙ ap (λ (k : ℕ). slots k entry ++ drop (k * 8) entry) (sym to)
 
 pub loop-slot-init : goal.loop-slot-init
 loop-slot-init c =
-    let z = (goal.at.loop-slot-init c).In-loop-slot in
-    let d = z.args.code.now in
-    let e : c.next_call-slot.result ≡ next_call (instructions_from d 0) 0 = c.next_call-slot.ensures in
-    let on = calls-passed d d (all-bytes d (λ i. (z.slice_known-1.given i).fits)) 0 (sym (slots-none d)) in
-    (rw e (call-inside d 0 (omega arith)), refl, rw e on)
+    let d = c.args.code.now in
+    let bytes : AllBytes d = all-bytes d (λ i. search rules) in
+    let to = c.next_call-slot.ensures in
+    let on = calls-passed d d bytes 0 (sym (slots-none d)) in
+    (rw to (call-inside d 0 (omega arith)), refl, rw to on)
 
 pub loop-slot-smaller : goal.loop-slot-smaller
-loop-slot-smaller c = omega (arith, further c, inside c)
+loop-slot-smaller c =
+    let d = c.args.code.now in
+    let code = c.sanitize_at.new.code in
+    let slot = c.loop-slot.slot in
+    let next = c.next_call-slot-in-loop-slot.result in
+    let kept : length code ≡ length d = omega arith in
+    let l = inside d c.loop-slot.code code slot next (omega arith) kept c.loop-slot.invariant.2 c.sanitize_at.ensures c.next_call-slot-in-loop-slot.ensures in
+    let m = further d c.loop-slot.code code slot next (omega arith) kept c.loop-slot.invariant.2 c.sanitize_at.ensures c.next_call-slot-in-loop-slot.ensures in
+    omega arith
 
 pub loop-slot-preserved : goal.loop-slot-preserved
-loop-slot-preserved c = (inside c, same c, passed c)
+loop-slot-preserved c =
+    let d = c.args.code.now in
+    let code = c.sanitize_at.new.code in
+    let slot = c.loop-slot.slot in
+    let next = c.next_call-slot-in-loop-slot.result in
+    let kept : length code ≡ length d = omega arith in
+    let bytes : AllBytes code = all-bytes code (λ i. search rules) in
+    let l = inside d c.loop-slot.code code slot next (omega arith) kept c.loop-slot.invariant.2 c.sanitize_at.ensures c.next_call-slot-in-loop-slot.ensures in
+    let m = passed d c.loop-slot.code code slot next (omega arith) kept c.loop-slot.invariant.2 c.sanitize_at.ensures c.next_call-slot-in-loop-slot.ensures bytes in
+    (l, kept, m)
 
 pub returns-after-loop-slot : goal.returns-after-loop-slot
 unfolding sanitized

@@ -1,13 +1,8 @@
-use mathlib.Core.Path.{◌≡◌, refl, sym, ap, ◌∙◌}
-use mathlib.Core.List.{List, ◌++◌}
-use Prim.Native.Nat.{ℕ, ◌+◌, ◌≤◌, ◌-◌, ◌*◌, ◌/◌}
+use mathlib.Core.Path.{◌≡◌}
+use mathlib.Core.List.{◌++◌}
+use Prim.Native.Nat.{◌≤◌, ◌-◌, ◌*◌}
 use lib.ListN.{length, drop}
-use native.Mathlib.Omega.{arith}
-use borrow.Author.Rules.{rules}
-use Rattle.encoding.specs.Code.{all-bytes}
-use Rattle.insn.specs.Sanitized.{slots, sanitized, slots-none, slots-more}
-use Rattle.insn.specs.Slot.{sanitized_at}
-use Rattle.insn.specs.Reading.{instructions_from, next_call, call_from, call-inside, calls-passed}
+use Rattle.insn.specs.Sanitized.{slots}
 use Rattle.insn.proofs.sanitize_code.Given as goal
 
 abbrev pub invariant-loop-slot : goal.invariant-loop-slot
