@@ -1,5 +1,6 @@
 // The rows of the program table: where a program's name lies, its length, the variant with its two values, the section's index and the address.
 #![tactic(auto)]
+
 ghost use Rattle.std.specs.Prelude.{◌≡◌, [], ◌∷◌, ◌++◌, ◌+◌, ◌*◌, ◌^◌, ◌<◌, ◌≤◌, length, take, drop};
 ghost use Rattle.std.proofs.lemmas.List.Edits.{sets};
 ghost use Rattle.catalogue_numbers.specs.Numbers.{program_by_number};

@@ -1,7 +1,6 @@
 -- `rows_programs::program_row` meets its contract: the records read and the numbers of the section's name are those of the program.
 use mathlib.Core.Path.{◌∙◌}
 use Rattle.rows_programs.specs.Rows.{row_is}
-use borrow.Author.Rules.{rules}
 use Rattle.rows_programs.proofs.program_row.Goals as goal
 
 pub returns : goal.returns

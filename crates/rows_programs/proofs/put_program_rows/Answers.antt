@@ -1,14 +1,12 @@
 -- `rows_programs::put_program_rows` meets its contract: the rows passed stand in front, and `place` is where the next name lies.
 use mathlib.Core.Path.{◌≡◌, refl, sym, ◌∙◌}
-use mathlib.Core.List.{◌++◌}
-use Prim.Native.Nat.{ℕ, ◌+◌, ◌-◌, ◌*◌, ◌<◌, ◌≤◌}
+use Prim.Native.Nat.{ℕ, ◌<◌}
 use native.Mathlib.Nat.{add-zero}
 use native.Mathlib.Omega.{arith}
-use borrow.Author.Rules.{rules}
-use lib.ListN.{length, take, drop}
+use lib.ListN.{length}
 use Rattle.model.specs.Bytes.{each}
 use Rattle.model.specs.Lent.{placed}
-use Rattle.rows_programs.specs.Rows.{program_rows, program_name_in, place-next, rows_more}
+use Rattle.rows_programs.specs.Rows.{place-next, rows_more}
 use Rattle.rows_programs.proofs.put_program_rows.Goals as goal
 
 pub loop-k-init : goal.loop-k-init
@@ -23,7 +21,7 @@ loop-k-preserved c =
     let k : ℕ = c.loop-k.k in
     let m : k < length a.numbers.now = omega (arith, t, c.requires) in (
       omega (arith, t),
-      c.put7.auto.0 ∙ c.loop-k.invariant.1,
+      c.put7.auto.t ∙ c.loop-k.invariant.1,
       omega (arith, c.loop-k.invariant.2, r.ensures.1),
       place-next a.d.now a.t.now a.v a.numbers.now a.at k c.loop-k.place r.result r.ensures.0 c.loop-k.invariant.3 m,
       c.put7.ensures
