@@ -2,7 +2,6 @@
 use native.Mathlib.Numerals.{towards_suc}
 use native.Mathlib.Omega.{arith}
 use lib.ListN.{length-set}
-use borrow.Author.Rules.{rules}
 use Rattle.rows_sections.proofs.put4.Goals as goal
 
 pub bounds-t-i-2 : goal.bounds-t-i-2

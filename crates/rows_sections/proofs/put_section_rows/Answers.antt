@@ -1,14 +1,12 @@
 -- `rows_sections::put_section_rows` meets its contract: the rows passed stand in front, and `place` is where the next name lies.
 use mathlib.Core.Path.{◌≡◌, refl, sym, ◌∙◌}
-use mathlib.Core.List.{◌++◌}
-use Prim.Native.Nat.{ℕ, ◌+◌, ◌-◌, ◌*◌, ◌<◌, ◌≤◌}
+use Prim.Native.Nat.{ℕ, ◌<◌}
 use native.Mathlib.Nat.{add-zero}
 use native.Mathlib.Omega.{arith}
-use borrow.Author.Rules.{rules}
-use lib.ListN.{length, take, drop}
+use lib.ListN.{length}
 use Rattle.model.specs.Bytes.{each}
 use Rattle.model.specs.Lent.{placed}
-use Rattle.rows_sections.specs.Rows.{section_rows, section_name_in, place-next, rows_more}
+use Rattle.rows_sections.specs.Rows.{place-next, rows_more}
 use Rattle.rows_sections.proofs.put_section_rows.Goals as goal
 
 pub loop-k-init : goal.loop-k-init
@@ -27,7 +25,7 @@ loop-k-preserved c =
     let k : ℕ = c.loop-k.k in
     let m : k < length a.numbers.now = omega (arith, u, c.requires) in (
       omega (arith, u),
-      c.put4.auto.0 ∙ c.loop-k.invariant.1,
+      c.put4.auto.t ∙ c.loop-k.invariant.1,
       omega (arith, c.loop-k.invariant.2, len.ensures),
       rw len.ensures.0 (place-next a.d.now a.t.now a.v a.numbers.now a.at k c.loop-k.place s.result s.ensures c.loop-k.invariant.3 m),
       c.put4.ensures
