@@ -1,5 +1,6 @@
 // An opened object loaded, but for the function table: what refuses it is decided, the lent tables and bytes are filled, then the bytes are finished.
 #![tactic(auto)]
+
 ghost use Rattle.std.specs.Prelude.{◌≡◌, ◌≤◌, length, replicate};
 ghost use Rattle.std.proofs.Math.Option.{none};
 ghost use Rattle.model.specs.Lent.{bytes_of, lent_room, filled, image_of, outcome_in};
