@@ -5,8 +5,7 @@ use native.Mathlib.Omega.{arith}
 use Rattle.model.specs.Contents.{words_of, invalid_map_definition}
 use Rattle.records.specs.View.{gap_of}
 use Rattle.stream.specs.Stream.{bytes_at}
-use Rattle.parse_maps.specs.Fault.{fault_past, fault-definition, fault-none}
-use borrow.Author.Rules.{rules}
+use Rattle.parse_maps.proofs.Fault.{fault_past, fault-definition, fault-none}
 use Rattle.parse_maps.proofs.map_fault.Goals as goal
 use Rattle.parse_maps.proofs.map_fault.Goals.{After-invalid_map_definition}
 

@@ -1,6 +1,6 @@
 -- `parse_maps::map_numbers` meets its contract. The loop's invariant: behind the first w lie the numbers passed, and the rest is as it was.
 use mathlib.Core.Path.{◌≡◌, refl}
-use Prim.Native.Nat.{◌+◌, ◌-◌, ◌<◌, ◌≤◌}
+use Prim.Native.Nat.{◌<◌, ◌≤◌}
 use native.Mathlib.Omega.{arith}
 use lib.ListN.{length, get_or, length-set}
 use lib.Seq.{slice}
@@ -8,7 +8,6 @@ use Rattle.records.specs.declared.MapSource.{MapSource}
 use Rattle.records.specs.Maps.{map_number_of}
 use Rattle.catalogue_laws.specs.Groups.{map-start, map-in, LaidFrom, laid_none, laid_next}
 use Rattle.parse_maps.specs.Fault.{symbol_map_numbers}
-use borrow.Author.Rules.{rules}
 use Rattle.parse_maps.proofs.map_numbers.Goals as goal
 
 pub loop-i-init : goal.loop-i-init

@@ -1,13 +1,9 @@
-use mathlib.Core.Path.{◌≡◌, refl}
-use Prim.Native.Nat.{◌+◌, ◌-◌, ◌<◌, ◌≤◌}
-use native.Mathlib.Omega.{arith}
-use lib.ListN.{length, get_or, length-set}
+use mathlib.Core.Path.{◌≡◌}
+use Prim.Native.Nat.{◌+◌, ◌-◌, ◌≤◌}
+use lib.ListN.{length}
 use lib.Seq.{slice}
-use Rattle.records.specs.declared.MapSource.{MapSource}
-use Rattle.records.specs.Maps.{map_number_of}
-use Rattle.catalogue_laws.specs.Groups.{map-start, map-in, LaidFrom, laid_none, laid_next}
+use Rattle.catalogue_laws.specs.Groups.{LaidFrom}
 use Rattle.parse_maps.specs.Fault.{symbol_map_numbers}
-use borrow.Author.Rules.{rules}
 use Rattle.parse_maps.proofs.map_numbers.Given as goal
 
 abbrev pub invariant-loop-i : goal.invariant-loop-i

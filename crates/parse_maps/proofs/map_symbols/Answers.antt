@@ -1,18 +1,16 @@
 -- `parse_maps::map_symbols` meets its contract. The loop's invariant: the first refusal of the group is the first from i on.
 use mathlib.Core.Path.{◌≡◌, refl, sym, ap, ◌∙◌}
 use mathlib.Core.Option.{none, some}
-use Prim.Native.Nat.{◌-◌, ◌≤◌}
 use native.Mathlib.Omega.{arith}
 use lib.ListN.{get_or}
 use lib.Seq.{slice}
-use Rattle.model.specs.Bytes.{first_in}
 use Rattle.model.specs.Refusals.{map_symbol_refusal}
 use Rattle.catalogue_laws.specs.Groups.{first_next, first_found, first-end}
 use Rattle.catalogue_laws.specs.Numbers.{first_in-map}
 use Rattle.object.specs.Checked.{checked_of}
 use Rattle.object.specs.View.{section_from, symbol_in}
-use Rattle.parse_maps.specs.Fault.{map_fault, map_refusal_by, map_refusal_at, refusal-fine, refusal-some}
-use borrow.Author.Rules.{rules}
+use Rattle.parse_maps.specs.Fault.{map_fault, map_refusal_by, map_refusal_at}
+use Rattle.parse_maps.proofs.Fault.{refusal-fine, refusal-some}
 use Rattle.parse_maps.proofs.map_symbols.Goals as goal
 
 pub loop-i-init : goal.loop-i-init

@@ -7,7 +7,6 @@ use lib.Seq.{slice, length-slice}
 use Rattle.lists.specs.Slice.{slice-none}
 use Rattle.object.specs.Checked.{checked_of}
 use Rattle.parse_maps.specs.Refused.{refused-empty, refused-symbols}
-use borrow.Author.Rules.{rules}
 use Rattle.parse_maps.proofs.parse_maps_section.Goals as goal
 
 pub returns-then-hi-lo : goal.returns-then-hi-lo
