@@ -1,8 +1,7 @@
 -- `parse_programs::parse_program` meets its contract: each answer by the tests before it.
 use mathlib.Core.Path.{sym, ◌∙◌}
 use native.Mathlib.Omega.{arith}
-use Rattle.parse_programs.specs.Fault.{fault-below, fault_past, fault-code, fault-none}
-use borrow.Author.Rules.{rules}
+use Rattle.parse_programs.proofs.Fault.{fault-below, fault_past, fault-code, fault-none}
 use Rattle.parse_programs.proofs.parse_program.Goals as goal
 
 pub returns-then-y-s : goal.returns-then-y-s

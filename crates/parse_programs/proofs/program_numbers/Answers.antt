@@ -1,8 +1,7 @@
 -- `parse_programs::program_numbers` meets its contract. The loop's invariant: behind the first w lie the programs passed, and the rest is as it was.
 use mathlib.Core.Path.{◌≡◌, refl, sym, ap, ◌∙◌}
 use mathlib.Core.Bool.{Bool}
-use mathlib.Core.Logic.{⊎_elim}
-use Prim.Native.Nat.{ℕ, ◌+◌, ◌-◌, ◌<◌, ◌≤◌}
+use Prim.Native.Nat.{ℕ, ◌<◌, ◌≤◌}
 use native.Mathlib.Omega.{arith}
 use lib.ListN.{length, get_or, length-set}
 use lib.Seq.{slice}
@@ -11,8 +10,8 @@ use Rattle.catalogue_laws.specs.Groups.{keep-start, keep-in, keep_out, LaidFrom,
 use Rattle.records.specs.View.{symbol_at}
 use Rattle.object.specs.Group.{programs_among}
 use Rattle.object.specs.View.{symbol_in, named_text, program-by-record}
-use borrow.Author.Rules.{rules}
 use Rattle.parse_programs.proofs.program_numbers.Goals as goal
+use Rattle.parse_programs.proofs.program_numbers.Goals.{then-is_program, else-is_program}
 
 pub loop-i-init : goal.loop-i-init
 loop-i-init c =
@@ -32,22 +31,22 @@ loop-i-preserved c =
     let q : ℕ → Bool = λ j. is_program (symbol_in d a.t.now a.v j) in
     let test : q (get_or js i 0) ≡ c.is_program.result =
     program-by-record d a.t.now a.v (symbol_at d a.t.now a.v (get_or js i 0)) ∙ ap named_text (sym c.symbol.ensures) ∙ sym c.is_program.ensures in
-    ⊎_elim
-    (λ w. (
-      omega arith,
-      omega arith,
-      omega (arith, w.2),
-      rw (w.1, length-set) v.3,
-      rw (w.1, w.2) (laid_next v.4 (get_or js i 0) _ room (keep-in a.lo i js from inside q (test ∙ w.0.true))),
-    ))
-    (λ w. (
-      omega arith,
-      omega arith,
-      omega (arith, w.2),
-      rw w.1 v.3,
-      rw (w.1, w.2, keep_out a.lo i js from inside q (test ∙ w.0.false)) v.4,
-    ))
-    c.if-is_program.branch
+    elim c.if-is_program.branch [
+      | then-is_program w ↦ (
+        omega arith,
+        omega arith,
+        omega arith,
+        rw (w.out-is, length-set) v.3,
+        rw (w.out-is, w.n-is) (laid_next v.4 (get_or js i 0) _ room (keep-in a.lo i js from inside q (test ∙ w.if-is_program.true))),
+      )
+      | else-is_program w ↦ (
+        omega arith,
+        omega arith,
+        omega arith,
+        rw w.out-is v.3,
+        rw (w.out-is, w.n-is, keep_out a.lo i js from inside q (test ∙ w.if-is_program.false)) v.4,
+      )
+    ]
 
 pub returns : goal.returns
 returns c =

@@ -1,16 +1,9 @@
-use mathlib.Core.Path.{◌≡◌, refl, sym, ap, ◌∙◌}
-use mathlib.Core.Bool.{Bool}
-use mathlib.Core.Logic.{⊎_elim}
-use Prim.Native.Nat.{ℕ, ◌+◌, ◌-◌, ◌<◌, ◌≤◌}
-use native.Mathlib.Omega.{arith}
-use lib.ListN.{length, get_or, length-set}
+use mathlib.Core.Path.{◌≡◌}
+use Prim.Native.Nat.{◌+◌, ◌-◌, ◌≤◌}
+use lib.ListN.{length}
 use lib.Seq.{slice}
-use Rattle.model.specs.Symbols.{is_program}
-use Rattle.catalogue_laws.specs.Groups.{keep-start, keep-in, keep_out, LaidFrom, laid_none, laid_next}
-use Rattle.records.specs.View.{symbol_at}
+use Rattle.catalogue_laws.specs.Groups.{LaidFrom}
 use Rattle.object.specs.Group.{programs_among}
-use Rattle.object.specs.View.{symbol_in, named_text, program-by-record}
-use borrow.Author.Rules.{rules}
 use Rattle.parse_programs.proofs.program_numbers.Given as goal
 
 abbrev pub invariant-loop-i : goal.invariant-loop-i

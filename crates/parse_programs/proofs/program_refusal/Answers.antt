@@ -9,7 +9,6 @@ use Rattle.model.specs.ProgramName.{from_str}
 use Rattle.object.specs.Checked.{checked_of}
 use Rattle.records.specs.View.{name_in}
 use Rattle.parse_programs.specs.Refused.{refused-unknown, refused-empty, refused-symbols}
-use borrow.Author.Rules.{rules}
 use Rattle.parse_programs.proofs.program_refusal.Goals as goal
 use Rattle.parse_programs.proofs.program_refusal.Goals.{After-from_str-parsed}
 

@@ -1,20 +1,18 @@
 -- `parse_programs::program_symbols` meets its contract. The loop's invariant: the first refusal of the group is the first from i on.
 use mathlib.Core.Path.{◌≡◌, refl, sym, ap, ◌∙◌}
-use mathlib.Core.Logic.{⊎_elim}
 use mathlib.Core.Option.{none, some}
-use Prim.Native.Nat.{◌-◌, ◌≤◌}
 use native.Mathlib.Omega.{arith}
 use lib.ListN.{get_or}
 use lib.Seq.{slice}
-use Rattle.model.specs.Bytes.{first_in}
 use Rattle.model.specs.Refusals.{program_symbol_refusal}
 use Rattle.model.specs.Symbols.{is_program}
 use Rattle.catalogue_laws.specs.Groups.{first_next, first_found, first-end, first-kept}
 use Rattle.object.specs.Checked.{checked_of}
 use Rattle.object.specs.View.{section_from, symbol_in}
-use Rattle.parse_programs.specs.Fault.{program_fault, program_refusal_by, program_refusal_at, refusal-other, refusal-fine, refusal-some}
-use borrow.Author.Rules.{rules}
+use Rattle.parse_programs.specs.Fault.{program_fault, program_refusal_by, program_refusal_at}
+use Rattle.parse_programs.proofs.Fault.{refusal-other, refusal-fine, refusal-some}
 use Rattle.parse_programs.proofs.program_symbols.Goals as goal
+use Rattle.parse_programs.proofs.program_symbols.Goals.{then-is_program+else-fault-ne0, else-is_program}
 
 pub loop-i-init : goal.loop-i-init
 loop-i-init c = (omega arith, refl)
@@ -48,10 +46,10 @@ loop-i-preserved c =
     let i = c.loop-i.i in
     let none-at : look (get_or a.symbols.now i 0) ≡ none =
     ap (program_refusal_by d a.t.now a.v a.s) (sym c.symbol-y.ensures)
-    ∙ ⊎_elim
-    (λ w. refusal-fine d a.t.now a.v a.s y (sym w.1.ensures ∙ w.2.false))
-    (λ w. refusal-other d a.t.now a.v a.s y (sym c.is_program.ensures ∙ w.false))
-    c.if-is_program.branch in
+    ∙ elim c.if-is_program.branch [
+      | then-is_program+else-fault-ne0 w ↦ refusal-fine d a.t.now a.v a.s y (sym w.parse_program-fault.ensures ∙ w.if-fault-ne0.false)
+      | else-is_program w ↦ refusal-other d a.t.now a.v a.s y (sym c.is_program.ensures ∙ w.if-is_program.false)
+    ] in
     (omega arith, c.loop-i.invariant.1 ∙ first_next look i a.hi a.symbols.now (omega arith) (omega arith) none-at)
 
 pub returns : goal.returns
