@@ -1,5 +1,6 @@
 // Number 1: the length of a deposit and the check of each block.
 #![tactic(auto)]
+
 ghost use Rattle.std.specs.Prelude.{◌≡◌, ◌+◌, ◌*◌, ◌<◌, ◌≤◌, length, take};
 ghost use Rattle.model.specs.Bytes.{part};
 ghost use Rattle.model.specs.Deposit.{weigh as weightOf, check_ok, checks_ok, frame_ok};
@@ -136,6 +137,7 @@ fn checks_ok(d: &[u8], blocks: usize) -> bool
     true
 }
 
+#[tactic(auto, using(std::proofs::lemmas::Bool::Decides::nat_tests), unfolding(model::specs::Deposit::frame_ok))]
 pub fn frame_ok(d: &[u8]) -> bool
     ensures { result ≡ frame_ok d.now }
 {

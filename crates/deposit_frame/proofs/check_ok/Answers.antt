@@ -3,7 +3,6 @@ use mathlib.Core.Path.{◌≡◌, sym}
 use Prim.Native.Nat.{◌+◌, ◌-◌, ◌*◌}
 use native.Mathlib.Omega.{arith}
 use Rattle.deposit_frame.specs.Checks.{check-place}
-use borrow.Author.Rules.{rules}
 use Rattle.deposit_frame.proofs.check_ok.Goals as goal
 
 pub returns : goal.returns

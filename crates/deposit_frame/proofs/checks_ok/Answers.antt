@@ -1,10 +1,7 @@
 -- `deposit_frame::checks_ok` meets its contract: the checks passed are right, so that all are right where those from block n on are.
-use mathlib.Core.Path.{◌≡◌, ◌∙◌, sym}
-use Prim.Native.Nat.{◌-◌, ◌≤◌}
+use mathlib.Core.Path.{◌∙◌, sym}
 use native.Mathlib.Omega.{arith}
-use borrow.Author.Tests.{not-true, not-false}
-use Rattle.model.specs.Deposit.{checks_ok}
-use Rattle.deposit_frame.specs.Checks.{checks_from, checks-first, checks-next, checks-none}
+use Rattle.deposit_frame.specs.Checks.{checks-first, checks-next, checks-none}
 use borrow.Author.Rules.{rules}
 use Rattle.deposit_frame.proofs.checks_ok.Goals as goal
 

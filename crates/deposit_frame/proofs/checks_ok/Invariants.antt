@@ -1,10 +1,7 @@
-use mathlib.Core.Path.{◌≡◌, ◌∙◌, sym}
+use mathlib.Core.Path.{◌≡◌}
 use Prim.Native.Nat.{◌-◌, ◌≤◌}
-use native.Mathlib.Omega.{arith}
-use borrow.Author.Tests.{not-true, not-false}
 use Rattle.model.specs.Deposit.{checks_ok}
-use Rattle.deposit_frame.specs.Checks.{checks_from, checks-first, checks-next, checks-none}
-use borrow.Author.Rules.{rules}
+use Rattle.deposit_frame.specs.Checks.{checks_from}
 use Rattle.deposit_frame.proofs.checks_ok.Given as goal
 
 abbrev pub invariant-loop-n : goal.invariant-loop-n

@@ -1,11 +1,11 @@
 -- `deposit_frame::columns` meets its contract: the columns passed are told, and each turn adds row 0 to the eight below it.
-use mathlib.Core.Path.{◌≡◌, refl}
-use Prim.Native.Nat.{◌+◌, ◌-◌, ◌≤◌}
+use mathlib.Core.Path.{refl}
+use Prim.Native.Nat.{◌+◌}
 use native.Mathlib.Omega.{arith}
 use borrow.Author.Count.{below_none}
 use borrow.Author.Rules.{rules}
-use lib.ListN.{length, length-set}
-use Rattle.deposit_frame.specs.Columns.{Below, IsSum, IsMoment, nine, below_set}
+use lib.ListN.{length-set}
+use Rattle.deposit_frame.specs.Columns.{IsSum, IsMoment, nine, below_set}
 use Rattle.deposit_frame.proofs.columns.Goals as goal
 use Rattle.deposit_frame.proofs.columns.Goals.{After-wide16}
 

@@ -1,10 +1,7 @@
-use mathlib.Core.Path.{◌≡◌, refl}
-use Prim.Native.Nat.{◌+◌, ◌-◌, ◌≤◌}
-use native.Mathlib.Omega.{arith}
-use borrow.Author.Count.{below_none}
-use borrow.Author.Rules.{rules}
-use lib.ListN.{length, length-set}
-use Rattle.deposit_frame.specs.Columns.{Below, IsSum, IsMoment, nine, below_set}
+use mathlib.Core.Path.{◌≡◌}
+use Prim.Native.Nat.{◌-◌, ◌≤◌}
+use lib.ListN.{length}
+use Rattle.deposit_frame.specs.Columns.{Below, IsSum, IsMoment}
 use Rattle.deposit_frame.proofs.columns.Given as goal
 
 abbrev pub invariant-loop-j : goal.invariant-loop-j

@@ -1,13 +1,11 @@
 -- `deposit_frame::rest_sum` meets its contract: the sum so far is that of the bytes passed, each of which adds at most 508 * 255.
 use mathlib.Core.Path.{◌≡◌, ◌∙◌}
-use Prim.Native.Nat.{ℕ, ◌-◌, ◌*◌, ◌≤◌, ◌<◌}
+use Prim.Native.Nat.{ℕ, ◌*◌, ◌≤◌, ◌<◌}
 use native.Mathlib.Nat.{mul-le-mul}
 use native.Mathlib.Omega.{arith}
-use lib.ListN.{length, take}
+use lib.ListN.{length}
 use lib.Seq.{take-length}
-use Rattle.model.specs.Deposit.{weigh}
 use Rattle.deposit_frame.specs.Checks.{weigh-more}
-use borrow.Author.Rules.{rules}
 use Rattle.deposit_frame.proofs.rest_sum.Goals as goal
 
 -- the product of a turn

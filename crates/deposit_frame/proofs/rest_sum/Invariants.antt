@@ -1,12 +1,7 @@
-use mathlib.Core.Path.{◌≡◌, ◌∙◌}
-use Prim.Native.Nat.{ℕ, ◌-◌, ◌*◌, ◌≤◌, ◌<◌}
-use native.Mathlib.Nat.{mul-le-mul}
-use native.Mathlib.Omega.{arith}
+use mathlib.Core.Path.{◌≡◌}
+use Prim.Native.Nat.{◌-◌, ◌*◌, ◌≤◌}
 use lib.ListN.{length, take}
-use lib.Seq.{take-length}
 use Rattle.model.specs.Deposit.{weigh}
-use Rattle.deposit_frame.specs.Checks.{weigh-more}
-use borrow.Author.Rules.{rules}
 use Rattle.deposit_frame.proofs.rest_sum.Given as goal
 
 abbrev pub invariant-loop-k : goal.invariant-loop-k

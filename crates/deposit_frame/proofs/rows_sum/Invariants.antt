@@ -1,9 +1,6 @@
 use mathlib.Core.Path.{◌≡◌}
-use Prim.Native.Nat.{ℕ, ◌-◌, ◌*◌, ◌%◌, ◌≤◌}
-use native.Mathlib.Nat.{mul-le-mul, mul-le-mul_right}
-use native.Mathlib.Omega.{arith}
-use borrow.Author.Rules.{rules}
-use Rattle.deposit_frame.specs.Columns.{total, plain, weighed, total-more}
+use Prim.Native.Nat.{◌-◌, ◌*◌, ◌≤◌}
+use Rattle.deposit_frame.specs.Columns.{total, plain, weighed}
 use Rattle.deposit_frame.proofs.rows_sum.Given as goal
 
 abbrev pub invariant-loop-j : goal.invariant-loop-j

@@ -2,7 +2,6 @@
 use mathlib.Core.Path.{◌∙◌}
 use native.Mathlib.Omega.{arith}
 use Rattle.deposit_frame.specs.Columns.{rows-weigh}
-use borrow.Author.Rules.{rules}
 use Rattle.deposit_frame.proofs.weigh.Goals as goal
 
 pub rows_sum-requires : goal.rows_sum-requires
@@ -12,4 +11,4 @@ rows_sum-requires c =
 pub rest_sum-requires : goal.rest_sum-requires
 rest_sum-requires c =
     let k = c.columns in
-    (omega arith, omega arith, c.rows_sum.ensures.0 ∙ rows-weigh _ k.new.1.1.0 k.new.1.1.1.0 _ (omega arith) k.ensures.0 k.ensures.1, omega arith)
+    (omega arith, omega arith, c.rows_sum.ensures.0 ∙ rows-weigh _ k.new.sums k.new.moments _ (omega arith) k.ensures.0 k.ensures.1, omega arith)
