@@ -1,5 +1,6 @@
 // The load of an object in arrays of one size: the two large ones.
 #![tactic(auto)]
+
 ghost use Rattle.std.specs.Prelude.{◌≡◌, ◌+◌, ◌≤◌, length};
 ghost use Rattle.model.specs.Lent.{lent_room, outcome_in};
 ghost use Rattle.model.specs.PatchList.{patches_of};

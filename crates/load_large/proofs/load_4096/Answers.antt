@@ -1,9 +1,7 @@
 -- `load_large::load_4096` meets its contract.
-use native.Mathlib.Omega.{arith}
-use Prim.Native.Nat.{ℕ, ◌+◌, ◌≤◌}
-use lib.ListN.{length-replicate}
+use Rattle.std.proofs.Common.{ℕ, ◌+◌, ◌≤◌, arith}
+use Rattle.std.proofs.Math.ListN.{length-replicate}
 use Rattle.load_object.specs.Core.{scratch-of}
-use borrow.Author.Rules.{rules}
 use Rattle.load_large.proofs.load_4096.Goals as goal
 
 pub load_object-requires : goal.load_object-requires
@@ -14,5 +12,5 @@ load_object-requires c =
     let j : a.v.relocations ≤ 16384 = c.requires.1 in (
       r,
       scratch-of a.v _ _ a.f.now _ _ _ 4096 4096 4096 16384 16384 (length-replicate {A = ℕ} 4096 0) (length-replicate {A = ℕ} 4096 0) (length-replicate {A = ℕ} 4096 0) (length-replicate {A = ℕ} 16384 0) (length-replicate {A = ℕ} 16384 0) c.requires.3 r.few-symbols
-          (omega (arith, i, j), omega (arith, i, j), omega (arith, i, j), omega (arith, i, j), omega (arith, i, j), omega (arith, i, j), omega (arith, i, j), omega (arith, i, j), omega (arith, i, j), omega (arith, i, j), omega (arith, i, j)),
+          (omega arith, omega arith, omega arith, omega arith, omega arith, omega arith, omega arith, omega arith, omega arith, omega arith, omega arith),
     )

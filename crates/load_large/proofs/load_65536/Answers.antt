@@ -1,9 +1,7 @@
 -- `load_large::load_65536` meets its contract.
-use native.Mathlib.Omega.{arith}
-use Prim.Native.Nat.{ℕ}
-use lib.ListN.{length-replicate}
+use Rattle.std.proofs.Common.{ℕ, arith}
+use Rattle.std.proofs.Math.ListN.{length-replicate}
 use Rattle.load_object.specs.Core.{scratch-of}
-use borrow.Author.Rules.{rules}
 use Rattle.load_large.proofs.load_65536.Goals as goal
 
 pub load_object-requires : goal.load_object-requires
@@ -15,5 +13,5 @@ load_object-requires c =
     let k = r.few-relocations in (
       r,
       scratch-of a.v _ _ a.f.now _ _ _ 4096 65536 69632 69632 65536 (length-replicate {A = ℕ} 4096 0) (length-replicate {A = ℕ} 65536 0) (length-replicate {A = ℕ} 69632 0) (length-replicate {A = ℕ} 69632 0) (length-replicate {A = ℕ} 65536 0) c.requires.1 r.few-symbols
-          (omega (arith, i, j, k), omega (arith, i, j, k), omega (arith, i, j, k), omega (arith, i, j, k), omega (arith, i, j, k), omega (arith, i, j, k), omega (arith, i, j, k), omega (arith, i, j, k), omega (arith, i, j, k), omega (arith, i, j, k), omega (arith, i, j, k)),
+          (omega arith, omega arith, omega arith, omega arith, omega arith, omega arith, omega arith, omega arith, omega arith, omega arith, omega arith),
     )
