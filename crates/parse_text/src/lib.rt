@@ -1,5 +1,6 @@
 // Text sections: numbers 11 to 15, and the numbers of the symbols that the walk meets.
 #![tactic(auto)]
+
 ghost use Rattle.std.specs.Prelude.{◌≡◌, ◌+◌, ◌-◌, ◌≤◌, length};
 ghost use Rattle.std.proofs.Math.Option.{some};
 ghost use Rattle.catalogue_laws.specs.Shared.{earlier as earlierOf, least_again};

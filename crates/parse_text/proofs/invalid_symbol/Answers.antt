@@ -4,7 +4,6 @@ use Prim.Native.Nat.{◌+◌, ◌<◌, ◌≤◌}
 use native.Mathlib.Omega.{arith}
 use borrow.Author.Tests.{eq-eqb, ne_eqb, lt-ltb, le-ltb}
 use Rattle.parse_text.specs.Parsed.{invalid_symbol}
-use borrow.Author.Rules.{rules}
 use Rattle.parse_text.proofs.invalid_symbol.Goals as goal
 
 pub returns-then-size-eq0 : goal.returns-then-size-eq0

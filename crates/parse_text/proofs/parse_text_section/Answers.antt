@@ -2,21 +2,19 @@
 use mathlib.Core.Path.{◌≡◌, ◌∙◌}
 use Rattle.records.specs.View.{symbol_at}
 use Rattle.parse_text.specs.Parsed.{refusal, parsed-conflict, parsed-walk}
-use borrow.Author.Rules.{rules}
 use Rattle.parse_text.proofs.parse_text_section.Goals as goal
 
 pub returns-in-At : goal.returns-in-At
 returns-in-At c =
     let a = c.args in
-    let j = c.j-1 in
     let y = c.symbol-y in
-    let e : c.refused.result ≡ refusal 11 a.s.index (symbol_at a.d.now a.t.now a.v j.given.0.0).index = c.refused.ensures ∙ rw y.ensures in
+    let e : c.refused.result ≡ refusal 11 a.s.index (symbol_at a.d.now a.t.now a.v c.in-At.j).index = c.refused.ensures ∙ rw y.ensures in
     rw e
-    (parsed-conflict a.d.now a.t.now a.v a.s a.symbols.now a.lo a.hi c.requires.1 c.symbol_table_conflict.result a.out.now a.w j.given.0.0
-    c.symbol_table_conflict.ensures j.given.1)
+    (parsed-conflict a.d.now a.t.now a.v a.s a.symbols.now a.lo a.hi c.requires.hi_value c.symbol_table_conflict.result a.out.now a.w c.in-At.j
+    c.symbol_table_conflict.ensures c.in-At.is)
 
 pub returns-in-Nothing : goal.returns-in-Nothing
 returns-in-Nothing c =
     let a = c.args in
-    parsed-walk a.d.now a.t.now a.v a.s a.symbols.now a.lo a.hi c.requires.1 c.symbol_table_conflict.result a.out.now a.w c.walk.result c.walk.new.out
+    parsed-walk a.d.now a.t.now a.v a.s a.symbols.now a.lo a.hi c.requires.hi_value c.symbol_table_conflict.result a.out.now a.w c.walk.result c.walk.new.out
     c.symbol_table_conflict.ensures c.in-Nothing.is c.walk.ensures

@@ -1,12 +1,9 @@
 -- `parse_text::symbol_table_conflict` meets its contract: what the pass answers in the end is fixed by what it holds and by what is before it (`conflict_answer`).
 use mathlib.Core.Path.{◌≡◌, ◌∙◌, sym}
-use Prim.Native.Nat.{◌≤◌, ◌-◌}
 use native.Mathlib.Omega.{arith}
 use lib.ListN.{get_or}
-use Rattle.catalogue_laws.specs.Shared.{least_again}
 use Rattle.parse_text.specs.Group.{address_in, text_group, group-end}
-use Rattle.parse_text.specs.Again.{conflict_of, again_next, conflict_answer, answer-first, answer-next, answer-end}
-use borrow.Author.Rules.{rules}
+use Rattle.parse_text.specs.Again.{again_next, answer-first, answer-next, answer-end}
 use Rattle.parse_text.proofs.symbol_table_conflict.Goals as goal
 
 pub loop-k-init : goal.loop-k-init

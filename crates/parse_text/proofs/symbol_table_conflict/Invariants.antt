@@ -1,11 +1,8 @@
-use mathlib.Core.Path.{◌≡◌, ◌∙◌, sym}
+use mathlib.Core.Path.{◌≡◌}
 use Prim.Native.Nat.{◌≤◌, ◌-◌}
-use native.Mathlib.Omega.{arith}
-use lib.ListN.{get_or}
 use Rattle.catalogue_laws.specs.Shared.{least_again}
-use Rattle.parse_text.specs.Group.{address_in, text_group, group-end}
-use Rattle.parse_text.specs.Again.{conflict_of, again_next, conflict_answer, answer-first, answer-next, answer-end}
-use borrow.Author.Rules.{rules}
+use Rattle.parse_text.specs.Group.{address_in, text_group}
+use Rattle.parse_text.specs.Again.{conflict_of, conflict_answer}
 use Rattle.parse_text.proofs.symbol_table_conflict.Given as goal
 
 abbrev pub invariant-loop-k : goal.invariant-loop-k

@@ -3,16 +3,15 @@
 use mathlib.Core.Path.{◌≡◌, sym, ap, ◌∙◌}
 use mathlib.Core.Bool.{true}
 use mathlib.Core.Option.{none, some}
-use Prim.Native.Nat.{ℕ, ◌+◌, ◌-◌, ◌*◌, ◌^◌, ◌<◌, ◌≤◌}
+use Prim.Native.Nat.{ℕ, ◌+◌, ◌*◌, ◌^◌, ◌<◌, ◌≤◌}
 use native.Mathlib.Omega.{arith}
 use lib.ListN.{length, get_or}
 use Rattle.model.specs.Symbols.{top}
 use Rattle.object.specs.View.{defined_record}
 use Rattle.parse_text.specs.declared.ParsedText.{ParsedText}
-use Rattle.parse_text.specs.Search.{SearchStands, search-end, search-other, search-below, search-met, search-past, search-lost}
+use Rattle.parse_text.specs.Search.{search-end, search-other, search-below, search-met, search-past, search-lost}
 use Rattle.parse_text.specs.Parsed.{invalid_symbol, unknown_symbol, number_from, number_passed, number-found, checked-fine, checked_refused, Walked}
-use Rattle.parse_text.specs.Walking.{Walking, valid-size, walking_start, walked_end, walked-unknown, walked-invalid, walking-next}
-use borrow.Author.Rules.{rules}
+use Rattle.parse_text.specs.Walking.{valid-size, walking_start, walked_end, walked-unknown, walked-invalid, walking-next}
 use Rattle.parse_text.proofs.walk.Goals as goal
 use Rattle.parse_text.proofs.walk.Goals.{At-loop-offset, Else-offset-start, In-loop-offset, In_default, Then-is_defined_text, Then-y-address}
 
@@ -37,7 +36,7 @@ unknown i r e q =
     let a = l.args in
     rw e
     (walked-unknown a.d.now a.t.now a.v a.s a.symbols.now a.lo a.hi a.out.now a.w l.loop-offset.offset l.loop-offset.k l.loop-offset.n l.loop-offset.out
-    l.loop-offset.invariant l.requires.0.2 (left i) q)
+    l.loop-offset.invariant l.requires.lo_le_hi.2 (left i) q)
 
 -- where a record is defined text
 text : (c : Then-is_defined_text) → defined_record c.symbol-y.result ≡ true
@@ -47,7 +46,7 @@ pub loop-offset-init : goal.loop-offset-init
 loop-offset-init c =
     let a = c.args in
     let p = c.requires in
-    walking_start a.d.now a.t.now a.v a.s a.symbols.now a.lo a.hi a.out.now a.w (omega arith) p.1
+    walking_start a.d.now a.t.now a.v a.s a.symbols.now a.lo a.hi a.out.now a.w (omega arith) p.hi_value
 
 pub returns-then-offset-start : goal.returns-then-offset-start
 returns-then-offset-start c =
@@ -72,7 +71,7 @@ returns-then-y-address-2 c =
     unknown (goal.at.returns-then-y-address-2 c).In-loop-offset c.unknown_symbol-then-y-address-2.result c.unknown_symbol-then-y-address-2.ensures
     (number-found a.d.now a.t.now a.v a.s c.loop-offset.offset none (reached (goal.at.returns-then-y-address-2 c).Else-offset-start)
     (search-lost a.d.now a.t.now a.v a.s a.symbols.now c.loop-k.k a.hi (a.s.address + c.loop-offset.offset)
-    c.if-k-hi.false c.requires.0.1 c.symbol-y.result c.symbol-y.ensures (text (goal.at.returns-then-y-address-2 c).Then-is_defined_text) c.loop-k.invariant.2 c.if-y-address-2.true))
+    c.if-k-hi.false c.requires.lo_le_hi.1 c.symbol-y.result c.symbol-y.ensures (text (goal.at.returns-then-y-address-2 c).Then-is_defined_text) c.loop-k.invariant.2 c.if-y-address-2.true))
 
 pub loop-k-preserved-else-y-address-2 : goal.loop-k-preserved-else-y-address-2
 loop-k-preserved-else-y-address-2 c =
@@ -83,7 +82,7 @@ loop-k-preserved-else-y-address-2 c =
       omega arith,
       omega arith,
       search-below a.d.now a.t.now a.v a.s a.symbols.now c.loop-k.k a.hi (a.s.address + c.loop-offset.offset)
-          c.if-k-hi.false c.requires.0.1 c.symbol-y.result c.symbol-y.ensures (text (goal.at.loop-k-preserved-else-y-address-2 c).Then-is_defined_text) c.loop-k.invariant.2 below,
+          c.if-k-hi.false c.requires.lo_le_hi.1 c.symbol-y.result c.symbol-y.ensures (text (goal.at.loop-k-preserved-else-y-address-2 c).Then-is_defined_text) c.loop-k.invariant.2 below,
     )
 
 pub loop-k-preserved : goal.loop-k-preserved
@@ -94,16 +93,16 @@ loop-k-preserved c =
       omega arith,
       omega arith,
       search-other a.d.now a.t.now a.v a.s a.symbols.now c.loop-k.k a.hi (a.s.address + c.loop-offset.offset)
-          c.if-k-hi.false c.requires.0.1 c.symbol-y.result c.symbol-y.ensures (sym c.is_defined_text.ensures ∙ c.if-is_defined_text.false) c.loop-k.invariant.2,
+          c.if-k-hi.false c.requires.lo_le_hi.1 c.symbol-y.result c.symbol-y.ensures (sym c.is_defined_text.ensures ∙ c.if-is_defined_text.false) c.loop-k.invariant.2,
     )
 
 found : (c : Then-y-address)
-    → (let a = c.args in number_from a.d.now a.t.now a.v a.s c.loop.offset ≡ some (get_or a.symbols.now c.loop-k.k 0))
+    → (let a = c.args in number_from a.d.now a.t.now a.v a.s c.loop-offset.offset ≡ some (get_or a.symbols.now c.loop-k.k 0))
 found c =
     let a = c.args in
-    number-found a.d.now a.t.now a.v a.s c.loop.offset (some (get_or a.symbols.now c.loop-k.k 0)) (reached c)
-    (search-met a.d.now a.t.now a.v a.s a.symbols.now c.loop-k.k a.hi (a.s.address + c.loop.offset)
-    c.if-k-hi.false c.requires.0.1 c.symbol-y.result c.symbol-y.ensures (text c) c.loop-k.invariant.2 c.if-y-address.true)
+    number-found a.d.now a.t.now a.v a.s c.loop-offset.offset (some (get_or a.symbols.now c.loop-k.k 0)) (omega arith)
+    (search-met a.d.now a.t.now a.v a.s a.symbols.now c.loop-k.k a.hi (a.s.address + c.loop-offset.offset)
+    c.if-k-hi.false c.requires.lo_le_hi.1 c.symbol-y.result c.symbol-y.ensures (sym c.is_defined_text.ensures ∙ c.if-is_defined_text.true) c.loop-k.invariant.2 c.if-y-address.true)
 
 pub invalid_symbol-requires : goal.invalid_symbol-requires
 invalid_symbol-requires c =
@@ -117,7 +116,7 @@ pub returns-in-Refused : goal.returns-in-Refused
 returns-in-Refused c =
     let a = c.args in
     walked-invalid a.d.now a.t.now a.v a.s a.symbols.now a.lo a.hi a.out.now a.w c.loop-offset.offset c.loop-offset.k c.loop-offset.n c.loop-offset.out c.loop-offset.invariant
-    c.requires.0.2 (left (goal.at.returns-in-Refused c).In-loop-offset) (get_or a.symbols.now c.loop-k.k 0) _ (found (goal.at.returns-in-Refused c).Then-y-address)
+    c.requires.lo_le_hi.2 (left (goal.at.returns-in-Refused c).In-loop-offset) (get_or a.symbols.now c.loop-k.k 0) _ (found (goal.at.returns-in-Refused c).Then-y-address)
     (ap (λ y. invalid_symbol a.s y c.loop-offset.offset) (sym c.symbol-y-in-loop-offset.ensures) ∙ checked_refused _ _ (sym c.invalid_symbol.ensures ∙ c.in-Refused.is))
 
 -- the symbol met is not refused
@@ -137,7 +136,7 @@ below c =
     let long = c.loop-offset.invariant.long in
     let first = c.loop-k.invariant.0 in
     let more = c.if-k-hi.false in
-    let fits = c.requires.0.2 in
+    let fits = c.requires.lo_le_hi.2 in
     omega arith
 
 pub offset_bounds-out-n : goal.offset_bounds-out-n
@@ -172,12 +171,12 @@ loop-offset-preserved c =
     let positive : 0 < y.result.size = (sizes (goal.at.loop-offset-preserved c).In_default).0 in
     rw y.ensures
     (walking-next a.d.now a.t.now a.v a.s a.symbols.now a.lo a.hi a.out.now a.w c.loop-offset.offset c.loop-offset.k c.loop-offset.n c.loop-offset.out c.loop-offset.invariant
-    c.requires.0.2 (left (goal.at.loop-offset-preserved c).In-loop-offset) j (c.loop-k.k + 1) (found (goal.at.loop-offset-preserved c).Then-y-address) (rw (← y.ensures) (fine (goal.at.loop-offset-preserved c).In_default)) (omega arith) (omega arith)
+    c.requires.lo_le_hi.2 (left (goal.at.loop-offset-preserved c).In-loop-offset) j (c.loop-k.k + 1) (found (goal.at.loop-offset-preserved c).Then-y-address) (rw (← y.ensures) (fine (goal.at.loop-offset-preserved c).In_default)) (omega arith) (omega arith)
     (rw (← y.ensures) (search-past a.d.now a.t.now a.v a.s a.symbols.now c.loop-k.k a.hi (a.s.address + c.loop-offset.offset)
-    c.if-k-hi.false c.requires.0.1 c.symbol-y.result c.symbol-y.ensures (text (goal.at.loop-offset-preserved c).Then-is_defined_text) c.loop-k.invariant.2 (a.s.address + (c.loop-offset.offset + y.result.size)) c.if-y-address.true (omega arith))))
+    c.if-k-hi.false c.requires.lo_le_hi.1 c.symbol-y.result c.symbol-y.ensures (text (goal.at.loop-offset-preserved c).Then-is_defined_text) c.loop-k.invariant.2 (a.s.address + (c.loop-offset.offset + y.result.size)) c.if-y-address.true (omega arith))))
 
 pub returns : goal.returns
 returns c =
     let a = c.args in
     walked_end a.d.now a.t.now a.v a.s a.symbols.now a.lo a.hi a.out.now a.w c.loop-offset.offset c.loop-offset.k c.loop-offset.n c.loop-offset.out c.loop-offset.invariant
-    c.requires.0.2 (omega arith)
+    c.requires.lo_le_hi.2 (omega arith)

@@ -1,16 +1,6 @@
-use mathlib.Core.Path.{◌≡◌, sym, ap, ◌∙◌}
-use mathlib.Core.Bool.{true}
-use mathlib.Core.Option.{none, some}
-use Prim.Native.Nat.{ℕ, ◌+◌, ◌-◌, ◌*◌, ◌^◌, ◌<◌, ◌≤◌}
-use native.Mathlib.Omega.{arith}
-use lib.ListN.{length, get_or}
-use Rattle.model.specs.Symbols.{top}
-use Rattle.object.specs.View.{defined_record}
-use Rattle.parse_text.specs.declared.ParsedText.{ParsedText}
-use Rattle.parse_text.specs.Search.{SearchStands, search-end, search-other, search-below, search-met, search-past, search-lost}
-use Rattle.parse_text.specs.Parsed.{invalid_symbol, unknown_symbol, number_from, number_passed, number-found, checked-fine, checked_refused, Walked}
-use Rattle.parse_text.specs.Walking.{Walking, valid-size, walking_start, walked_end, walked-unknown, walked-invalid, walking-next}
-use borrow.Author.Rules.{rules}
+use Prim.Native.Nat.{◌-◌, ◌≤◌}
+use Rattle.parse_text.specs.Search.{SearchStands}
+use Rattle.parse_text.specs.Walking.{Walking}
 use Rattle.parse_text.proofs.walk.Given as goal
 
 abbrev pub invariant-loop-k : goal.invariant-loop-k

@@ -1,9 +1,7 @@
 -- `parse_text::Again::next` meets its contract, by cases: no defined text, the address of the one before it, another address, the first.
 use mathlib.Core.Path.{sym, ap, ◌∙◌}
 use mathlib.Core.Bool.{true}
-use borrow.Author.Tests.{not-true, not-false}
 use Rattle.parse_text.specs.Again.{next-other, next-again, next-apart, next-first}
-use borrow.Author.Rules.{rules}
 use Rattle.parse_text.proofs.Again.next.Goals as goal
 
 pub returns-then-not-is_defined_text : goal.returns-then-not-is_defined_text
