@@ -9,7 +9,7 @@ use Rattle.std.proofs.Math.Seq.{length-take-le, take-nil}
 use Rattle.model.specs.ProgramName.{cut, first_piece, second_piece, program_of}
 use Rattle.program_section.specs.declared.Found.{Found}
 use Rattle.program_section.specs.Same.{and_left, and_right}
-use Rattle.program_section.specs.Pieces.{until, until-le, piece, first_piece_lem, second-piece}
+use Rattle.program_section.specs.Pieces.{until, until-le, first_piece_lem, second-piece}
 use Rattle.program_section.specs.Short.{long-name}
 use Rattle.program_section.specs.Found.{row_variant, Tells}
 use Rattle.program_section.specs.Words.{Entry, answering, reading, second, word_table, no_word, word_number, short-word}

@@ -156,8 +156,6 @@ none_of k x (y ∷ ys) h t = go (eqb x y) refl t (none_of k x ys h.0)
     go false e t r = r t
 
 -- whether all keys that pass a test are among these
--- whether all keys that pass a test are among these
--- whether all keys that pass a test are among these
 unfoldable pub all_listed : (ℕ → Bool) → List ℕ → List Entry → Bool
 all_listed t keys [] = true
 all_listed t keys (e ∷ es) = cond (t (word_key e.word)) (is_in (word_key e.word) keys) true && all_listed t keys es

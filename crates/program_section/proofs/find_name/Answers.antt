@@ -6,7 +6,6 @@ use Rattle.stream.specs.Stream.{bytes_at}
 use Rattle.program_section.specs.Short.{short-name}
 use Rattle.program_section.specs.Found.{Tells}
 use Rattle.program_section.specs.Copied.{take-bytes}
-use borrow.Author.Rules.{rules}
 use Rattle.program_section.proofs.find_name.Goals as goal
 
 pub returns : goal.returns

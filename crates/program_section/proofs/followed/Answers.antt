@@ -3,7 +3,6 @@ use mathlib.Core.Path.{sym, ◌∙◌}
 use Prim.Native.Nat.{◌+◌, ◌%◌}
 use Rattle.program_section.specs.Table.{told-low}
 use borrow.Author.Tests.{eq-eqb, ne_eqb}
-use borrow.Author.Rules.{rules}
 use Rattle.program_section.proofs.followed.Goals as goal
 
 pub returns-then-k-n : goal.returns-then-k-n

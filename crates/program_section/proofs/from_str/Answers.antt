@@ -3,7 +3,6 @@ use mathlib.Core.Path.{sym, ap, ◌∙◌}
 use Rattle.model.specs.declared.ParsedProgramSection.TheVariants.{Section}
 use Rattle.model.specs.ProgramName.{from_str}
 use Rattle.program_section.specs.Found.{parsed_in}
-use borrow.Author.Rules.{rules}
 use Rattle.program_section.proofs.from_str.Goals as goal
 
 pub returns-in-Program : goal.returns-in-Program

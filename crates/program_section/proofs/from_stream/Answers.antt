@@ -11,7 +11,6 @@ use Rattle.stream.specs.Laws.{bytes-block}
 use Rattle.stream.specs.Run.{run-at, run_room, run-one}
 use Rattle.program_section.specs.Found.{Tells}
 use Rattle.program_section.specs.Table.{told_by}
-use borrow.Author.Rules.{rules}
 use Rattle.program_section.proofs.from_stream.Goals as goal
 
 pub overflow_add-e : goal.overflow_add-e

@@ -9,7 +9,6 @@ use lib.Seq.{take_all}
 use borrow.Author.Tests.{lt-ltb}
 use Rattle.program_section.specs.Pieces.{until}
 use Rattle.program_section.specs.Window.{window-long, window-first, window-none, window-alone, window-followed}
-use borrow.Author.Rules.{rules}
 use Rattle.program_section.proofs.from_window.Goals as goal
 use Rattle.program_section.proofs.from_window.Goals.{After-number-n}
 

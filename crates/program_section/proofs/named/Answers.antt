@@ -1,6 +1,5 @@
 -- `named` meets its contract: by whether the words are the same.
 use mathlib.Core.Path.{sym, ◌∙◌}
-use borrow.Author.Rules.{rules}
 use Rattle.program_section.proofs.named.Goals as goal
 
 pub returns-then-same : goal.returns-then-same

@@ -4,7 +4,6 @@ use Prim.Native.Nat.{ℕ, ◌-◌}
 use native.Mathlib.Omega.{arith}
 use lib.ListN.{take, length-take}
 use Rattle.program_section.specs.Words.{word_table, word_number, empty-word}
-use borrow.Author.Rules.{rules}
 use Rattle.program_section.proofs.number.Goals as goal
 use Rattle.program_section.proofs.number.Goals.{After-key-k}
 

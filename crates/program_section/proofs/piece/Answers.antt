@@ -1,7 +1,6 @@
 -- `piece` meets its contract: the counts in the first 18 bytes and in the first m.
 use native.Mathlib.Omega.{arith}
 use Rattle.program_section.specs.Pieces.{until-take}
-use borrow.Author.Rules.{rules}
 use Rattle.program_section.proofs.piece.Goals as goal
 
 pub returns : goal.returns

@@ -1,5 +1,4 @@
 -- `row_variant` meets its contract: each field is its number of the row.
-use borrow.Author.Rules.{rules}
 use Rattle.program_section.proofs.row_variant.Goals as goal
 
 pub returns : goal.returns
@@ -7,5 +6,4 @@ returns c = λ i. record {
   number = c.wide64.ensures.0 i;
   first = c.wide64-2.ensures.0 i;
   second = c.wide64-3.ensures.0 i;
-
 }

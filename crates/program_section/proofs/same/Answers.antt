@@ -1,8 +1,5 @@
 -- `same` meets its contract. The invariant: the comparison is what is left of it at i.
-use mathlib.Core.Path.{◌≡◌, refl, sym, ◌∙◌}
-use Prim.Native.Nat.{◌≤◌, ◌-◌}
-use lib.ListN.{length, drop}
-use Rattle.model.specs.Bytes.{same}
+use mathlib.Core.Path.{refl, sym, ◌∙◌}
 use Rattle.program_section.specs.Same.{lengths_differ, same-differ, same_next, same_ended}
 use borrow.Author.Rules.{rules}
 use native.Mathlib.Omega.{arith}

@@ -1,10 +1,7 @@
-use mathlib.Core.Path.{◌≡◌, refl, sym, ◌∙◌}
+use mathlib.Core.Path.{◌≡◌}
 use Prim.Native.Nat.{◌≤◌, ◌-◌}
 use lib.ListN.{length, drop}
 use Rattle.model.specs.Bytes.{same}
-use Rattle.program_section.specs.Same.{lengths_differ, same-differ, same_next, same_ended}
-use borrow.Author.Rules.{rules}
-use native.Mathlib.Omega.{arith}
 use Rattle.program_section.proofs.same.Given as goal
 
 abbrev pub invariant-loop-i : goal.invariant-loop-i

@@ -5,7 +5,6 @@ use native.Mathlib.Omega.{arith}
 use lib.ListN.{take}
 use Rattle.program_section.specs.Words.{word_table, word_number}
 use Rattle.program_section.specs.Window.{whole_word}
-use borrow.Author.Rules.{rules}
 use Rattle.program_section.proofs.second.Goals as goal
 
 pub returns-then-k-ne-NOTHING : goal.returns-then-k-ne-NOTHING

@@ -2,7 +2,6 @@
 use mathlib.Core.Path.{sym, ap, ◌∙◌}
 use Rattle.program_section.specs.declared.Found.TheVariants.{Program}
 use borrow.Author.Tests.{lt-ltb, le-ltb}
-use borrow.Author.Rules.{rules}
 use Rattle.program_section.proofs.told.Goals as goal
 
 pub returns-then-r-lt65536 : goal.returns-then-r-lt65536

@@ -1,8 +1,5 @@
 -- `until` meets its contract. The invariant: the bytes passed, and the count from i on.
-use mathlib.Core.Path.{◌≡◌}
-use Prim.Native.Nat.{◌≤◌, ◌+◌, ◌-◌}
-use lib.ListN.{length, drop}
-use Rattle.program_section.specs.Pieces.{until, until-here, until-next, until-ended}
+use Rattle.program_section.specs.Pieces.{until-here, until-next, until-ended}
 use borrow.Author.Rules.{rules}
 use native.Mathlib.Omega.{arith}
 use Rattle.program_section.proofs.until.Goals as goal

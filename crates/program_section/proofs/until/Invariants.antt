@@ -1,9 +1,7 @@
 use mathlib.Core.Path.{◌≡◌}
 use Prim.Native.Nat.{◌≤◌, ◌+◌, ◌-◌}
 use lib.ListN.{length, drop}
-use Rattle.program_section.specs.Pieces.{until, until-here, until-next, until-ended}
-use borrow.Author.Rules.{rules}
-use native.Mathlib.Omega.{arith}
+use Rattle.program_section.specs.Pieces.{until}
 use Rattle.program_section.proofs.until.Given as goal
 
 abbrev pub invariant-loop-i : goal.invariant-loop-i

@@ -3,7 +3,6 @@ use mathlib.Core.Path.{sym, ap, ◌∙◌}
 use Rattle.model.specs.ProgramName.{program_of}
 use Rattle.stream.specs.Stream.{bytes_at}
 use Rattle.program_section.specs.Found.{variant_by, variant-by}
-use borrow.Author.Rules.{rules}
 use Rattle.program_section.proofs.variant_numbers.Goals as goal
 
 pub returns-in-Program : goal.returns-in-Program

@@ -122,4 +122,4 @@ returns-in-29 c = rw c.in-29.is
 
 pub returns-in_default : goal.returns-in_default
 unfolding program_from
-returns-in_default c = let h : NoneOf c.args.n 29 = c.in_default.rest in rw get_or-first
+returns-in_default c = let h : NoneOf c.args.n 29 = search rules in rw get_or-first
