@@ -44,7 +44,7 @@ row_made d t j rows =
     }
 
 -- by what was read: the symbol, its section and the lengths
-pub row_made_lem : (d t : List ℕ) (j : ℕ) (rows : Rows) (y : SymbolRecord) (s : SectionRecord) (o l n c : ℕ)
+pub row-made : (d t : List ℕ) (j : ℕ) (rows : Rows) (y : SymbolRecord) (s : SectionRecord) (o l n c : ℕ)
     → y ≡ symbol_at d t rows.view j → s ≡ section_of_function d t rows.view j → o ≡ code_offset d t rows.view s y
     → l ≡ y.name.length → n ≡ min (rows.name + l) top → c ≡ min (rows.code + code_length y) top
     → record {
@@ -52,7 +52,7 @@ pub row_made_lem : (d t : List ℕ) (j : ℕ) (rows : Rows) (y : SymbolRecord) (
       rest = record { view = rows.view; count = rows.count; name = n; code = c };
     } ≡ row_made d t j rows
 unfolding row_made
-row_made_lem d t j rows y s o l n c e f p q u w = rw (w, u, q, p, f, e)
+row-made d t j rows y s o l n c e f p q u w = rw (w, u, q, p, f, e)
 
 -- row i of the numbers, and what is left; past the last number a row of zeros
 unfoldable pub made_of : List ℕ → List ℕ → List ℕ → ℕ → Rows → Made

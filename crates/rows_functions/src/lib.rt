@@ -1,5 +1,6 @@
 // The function table in a lent slice of structs: its rows stored in the order of a table of record numbers, and the look-up of a row by section and address.
 #![tactic(auto)]
+
 ghost use Rattle.std.specs.Prelude.{◌≡◌, [], ◌∷◌, ◌+◌, ◌<◌, min, length};
 ghost use Rattle.model.specs.Lent.{zero_row};
 ghost use Rattle.model.specs.LookUp.{row_key, found_in};

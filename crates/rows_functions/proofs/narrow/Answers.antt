@@ -1,7 +1,6 @@
 -- `rows_functions::narrow` meets its contract: by how the middle row's key stands to the key.
 use mathlib.Core.List.{[], ◌∷◌}
 use Rattle.rows_functions.specs.Search.{narrowed-is}
-use borrow.Author.Rules.{rules}
 use Rattle.rows_functions.proofs.narrow.Goals as goal
 
 pub returns-in-Less : goal.returns-in-Less
