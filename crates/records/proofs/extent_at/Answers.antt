@@ -7,4 +7,4 @@ use Rattle.records.proofs.extent_at.Goals as goal
 
 pub returns : goal.returns
 unfolding byte_at
-returns c = let a = c.args in let small : (k : ℕ) → byte_at a.d.now 4 k < 256 = λ k. omega (arith, c.shared_slice_known-1.given (place 4 k)) in extent-both a.d.now 4 a.p c.u64_at-both.result small c.u64_at-both.ensures
+returns c = let a = c.args in let small : (k : ℕ) → byte_at a.d.now 4 k < 256 = λ k. omega (arith, c.type_inv.d (place 4 k)) in extent-both a.d.now 4 a.p c.u64_at-both.result small c.u64_at-both.ensures

@@ -11,6 +11,6 @@ pub returns : goal.returns
 unfolding relocation_record
 returns c =
     let s = c.args.s.now in
-    let small = c.shared_slice_known-1.given in
+    let small = c.type_inv.s in
     let e : c.four-2.result / 256 ≡ little (part s 13 3) = omega (arith, c.four-2.ensures, part-first s 12 3 (omega arith), small 12) in
     cc e

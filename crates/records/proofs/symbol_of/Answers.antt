@@ -11,7 +11,7 @@ pub returns : goal.returns
 unfolding symbol_record
 returns c =
     let s = c.args.s.now in
-    let small = c.shared_slice_known-1.given in
+    let small = c.type_inv.s in
     let e : c.eight-3.result / 65536 ≡ little (part s 34 6) =
     omega (arith, c.eight-3.ensures, part-first s 32 7 (omega arith), part-first s 33 6 (omega arith), small 32, small 33)
     in
