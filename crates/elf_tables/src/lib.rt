@@ -1,5 +1,6 @@
 // Numbers 25 and 26 of an ELF file by its headers, all but the names; the layout of a file that passes.
 #![tactic(auto)]
+
 ghost use Rattle.std.specs.Prelude.{◌≡◌, true, ◌||◌, ◌+◌, ◌*◌, ◌<◌, ◌≤◌, eqb, length};
 ghost use Rattle.model.specs.Bytes.{maybe, inside};
 ghost use Rattle.model.specs.Deposit.{all};
@@ -175,6 +176,7 @@ fn symbol_table_fits(d: &[u8], h: Headers, table: u32) -> bool
     whole_entries(d, h, i)
 }
 
+#[tactic(auto, unfolding(model::specs::ElfRefusals::header_ok))]
 fn header_ok(d: &[u8], h: Headers, i: u32) -> bool
     requires { h.first + 64 * i + 48 ≤ length d.now }
     ensures { result ≡ header_ok (length d.now) (header_in d.now h i) }

@@ -1,6 +1,9 @@
 -- `elf_tables::check` meets its contract: what is read of the header is the file, and 25 goes before 26.
 use mathlib.Core.Path.{◌≡◌, sym, ap, ◌∙◌}
-use borrow.Author.Tests.{not-true, not-false}
+use mathlib.Core.List.{List}
+use Prim.Native.Nat.{ℕ}
+use Rattle.elf_header.specs.declared.FileHeader.{FileHeader}
+use Rattle.elf_header.specs.declared.Headers.{Headers}
 use lib.ListN.{length}
 use Rattle.elf_header.specs.Headers.{file_header_of, headers_of, headers_in, headers-present}
 use Rattle.elf_layout.specs.declared.FileCheck.{FileCheck}
@@ -8,21 +11,15 @@ use Rattle.elf_tables.specs.Numbered.{Present, table_by, file_by}
 use Rattle.elf_tables.specs.Checked.{kind_by, tables_by}
 use Rattle.elf_tables.specs.Placed.{layout_by, in_reach}
 use Rattle.elf_tables.specs.Answered.{whole_file, answer_by, checked-by, tables-ok}
-use borrow.Author.Rules.{rules}
 use Rattle.elf_tables.proofs.check.Goals as goal
-use Rattle.elf_tables.proofs.check.Goals.{After-check_tables, After-kind_ok, After-section_headers-h, After-symbol_table-table}
+use Rattle.elf_tables.proofs.check.Goals.{After-check_tables, After-kind_ok, After-section_headers-h}
 
 -- what was read of the file
-read : (c : After-symbol_table-table) →
-    let d = c.args.d.now in
-    (c.file_header-f.result ≡ file_header_of d)
-    × (c.section_headers-h.result ≡ headers_in d)
-    × (c.symbol_table-table.result ≡ table_by d (headers_in d))
-read c =
-    let d = c.args.d.now in
-    let f = c.file_header-f.ensures in
-    let h : c.section_headers-h.result ≡ headers_in d = c.section_headers-h.ensures ∙ ap (headers_of (length d)) f in
-    (f, h, c.symbol_table-table.ensures ∙ ap (table_by d) h)
+read : (d : List ℕ) {f : FileHeader} {h : Headers} {t : ℕ} → f ≡ file_header_of d → h ≡ headers_of (length d) f → t ≡ table_by d h
+    → (f ≡ file_header_of d) × (h ≡ headers_in d) × (t ≡ table_by d (headers_in d))
+read d f h t =
+    let e : _ ≡ headers_in d = h ∙ ap (headers_of (length d)) f in
+    (f, e, t ∙ ap (table_by d) e)
 
 present : (c : After-section_headers-h) → Present c.args.d.now c.section_headers-h.result
 present c =
@@ -30,18 +27,18 @@ present c =
 
 kind : (c : After-kind_ok) →
     let d = c.args.d.now in
-    c.Kind-ok.result ≡ kind_by d (headers_in d) (table_by d (headers_in d))
+    c.kind_ok.result ≡ kind_by d (headers_in d) (table_by d (headers_in d))
 kind c =
     let d = c.args.d.now in
-    let e = read c in
-    c.Kind-ok.ensures ∙ (λ i. kind_by d (e.1 i) (e.2 i))
+    let e = read d c.file_header-f.ensures c.section_headers-h.ensures c.symbol_table-table.ensures in
+    c.kind_ok.ensures ∙ (λ i. kind_by d (e.1 i) (e.2 i))
 
 tables : (c : After-check_tables) →
     let d = c.args.d.now in
     c.check_tables.result ≡ tables_by d (whole_file d)
 tables c =
     let d = c.args.d.now in
-    let e = read c in
+    let e = read d c.file_header-f.ensures c.section_headers-h.ensures c.symbol_table-table.ensures in
     c.check_tables.ensures ∙ (λ i. tables_by d (file_by d (e.0 i) (e.1 i) (e.2 i)))
 
 pub symbol_table-table-requires : goal.symbol_table-table-requires
@@ -61,18 +58,16 @@ check_tables-requires c = (c.if-d-lt64.false, present (goal.at.check_tables-requ
 pub file_layout-requires : goal.file_layout-requires
 file_layout-requires c =
     let d = c.args.d.now in
-    let e = read (goal.at.file_layout-requires c).After-symbol_table-table in
-    let n = c.relocations-1.given in
-    (present (goal.at.file_layout-requires c).After-section_headers-h, rw (e.0, e.1, e.2) (in_reach d (file_header_of d) (tables-ok d (whole_file d) n.0.0 (sym (tables (goal.at.file_layout-requires c).After-check_tables) ∙ n.1))))
+    let e = read d c.file_header-f.ensures c.section_headers-h.ensures c.symbol_table-table.ensures in
+    (present (goal.at.file_layout-requires c).After-section_headers-h, rw (e.0, e.1, e.2) (in_reach d (file_header_of d) (tables-ok d (whole_file d) c.in-Entries.relocations (sym (tables (goal.at.file_layout-requires c).After-check_tables) ∙ c.in-Entries.is))))
 
 pub returns-in-Entries : goal.returns-in-Entries
 unfolding answer_by
 returns-in-Entries c =
     let d = c.args.d.now in
-    let e = read (goal.at.returns-in-Entries c).After-symbol_table-table in
-    let n = c.relocations-1.given in
-    ap FileCheck.Layout (c.file_layout.ensures ∙ (λ i. layout_by (e.1 i) (file_by d (e.0 i) (e.1 i) (e.2 i)) (e.2 i) n.0.0))
-    ∙ sym (checked-by d ∙ rw (← kind (goal.at.returns-in-Entries c).After-kind_ok, c.if-not-kind_ok.false, ← tables (goal.at.returns-in-Entries c).After-check_tables, n.1))
+    let e = read d c.file_header-f.ensures c.section_headers-h.ensures c.symbol_table-table.ensures in
+    ap FileCheck.Layout (c.file_layout.ensures ∙ (λ i. layout_by (e.1 i) (file_by d (e.0 i) (e.1 i) (e.2 i)) (e.2 i) c.in-Entries.relocations))
+    ∙ sym (checked-by d ∙ rw (← kind (goal.at.returns-in-Entries c).After-kind_ok, c.if-not-kind_ok.false, ← tables (goal.at.returns-in-Entries c).After-check_tables, c.in-Entries.is))
 
 pub returns-in-Broken : goal.returns-in-Broken
 unfolding answer_by

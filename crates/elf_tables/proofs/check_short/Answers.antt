@@ -1,10 +1,8 @@
 -- `elf_tables::check_short` meets its contract.
 use mathlib.Core.Path.{◌≡◌, sym, ap, ◌∙◌}
-use borrow.Author.Tests.{not-true, not-false}
 use Rattle.model.specs.Elf.{file_order}
 use Rattle.elf_ident.specs.FirstBytes.{first_bytes_ok}
 use Rattle.elf_tables.specs.Answered.{checked-short}
-use borrow.Author.Rules.{rules}
 use Rattle.elf_tables.proofs.check_short.Goals as goal
 use Rattle.elf_tables.proofs.check_short.Goals.{After-first_bytes_ok}
 

@@ -1,8 +1,6 @@
 -- `elf_tables::check_tables` meets its contract: each test in its turn.
 use mathlib.Core.Path.{sym, ◌∙◌}
-use borrow.Author.Tests.{not-true, not-false}
 use Rattle.elf_tables.specs.Checked.{tables-by}
-use borrow.Author.Rules.{rules}
 use Rattle.elf_tables.proofs.check_tables.Goals as goal
 
 pub returns-then-not-room_ok : goal.returns-then-not-room_ok

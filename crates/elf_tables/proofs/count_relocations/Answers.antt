@@ -1,11 +1,10 @@
 -- `elf_tables::count_relocations` meets its contract: the headers and tables passed keep their rules, and their entries are counted.
 use mathlib.Core.Path.{◌≡◌, sym, ap, ◌∙◌}
 use mathlib.Core.Bool.{true, cond}
-use mathlib.Core.Logic.{⊎_elim}
-use Prim.Native.Nat.{ℕ, ◌+◌, ◌-◌, ◌*◌, ◌<◌, ◌≤◌}
+use Prim.Native.Nat.{◌+◌, ◌≤◌}
 use native.Mathlib.Omega.{arith}
 use borrow.Author.Count.{below_none, below_more}
-use borrow.Author.Tests.{le-leb, lt-leb, not-true, not-false}
+use borrow.Author.Tests.{le-leb, lt-leb}
 use lib.ListN.{length}
 use Rattle.model.specs.Elf.{entry_count}
 use Rattle.model.specs.ElfRefusals.{header_ok, reloc_table_ok}
@@ -13,9 +12,8 @@ use Rattle.elf_header.specs.Headers.{header_in}
 use Rattle.elf_header.specs.Used.{used_by}
 use Rattle.elf_tables.specs.Numbered.{sections_by}
 use Rattle.elf_tables.specs.Checked.{used_ok, counted_by, entries_fit, entries_to, entries_none, entries-more, count-header, count-table, count-all, few-entries}
-use borrow.Author.Rules.{rules}
 use Rattle.elf_tables.proofs.count_relocations.Goals as goal
-use Rattle.elf_tables.proofs.count_relocations.Goals.{After-loop-i, Else-not-header_ok, Joined-in_use}
+use Rattle.elf_tables.proofs.count_relocations.Goals.{After-loop-i, Else-not-header_ok, Joined-in_use, then-in_use+else-not-reloc_table_ok, else-in_use}
 
 -- the header at hand keeps its rules, and has few entries
 passes : (c : Else-not-header_ok) →
@@ -36,15 +34,18 @@ turn : (c : Joined-in_use) →
     × (c.if-in_use.n ≡ c.loop-i.n + cond (used_by a.table x) (entry_count x) 0)
     × (c.if-in_use.n ≤ c.loop-i.n + 16777216)
 turn c =
+    let a = c.args in
+    let x = header_in a.d.now a.h c.loop-i.i in
+    let few : entry_count x ≤ 16777216 = few-entries (length a.d.now) x (sym c.header_ok.ensures ∙ c.if-not-header_ok.false) in
     let u = c.in_use.ensures in
-    ⊎_elim
-    (λ w. (
-      rw (← u, w.0.true, ← w.1.ensures, not-false w.1.result w.2.false),
-      w.4 ∙ rw (← u, w.0.true, w.3.ensures),
-      omega (arith, w.4, w.3.ensures, fewer c),
-    ))
-    (λ w. (rw (← u, w.0.false), w.1 ∙ rw (← u, w.0.false) (omega arith), omega (arith, w.1)))
-    c.if-in_use.branch
+    elim c.if-in_use.branch [
+      | then-in_use+else-not-reloc_table_ok w ↦ (
+        rw (← u, w.if-in_use.true, ← w.reloc_table_ok.ensures, w.if-not-reloc_table_ok.false),
+        w.n-is ∙ rw (← u, w.if-in_use.true, w.entry_count-n.ensures),
+        omega (arith, w.n-is, w.entry_count-n.ensures, few),
+      )
+      | else-in_use w ↦ (rw (← u, w.if-in_use.false), w.n-is ∙ rw (← u, w.if-in_use.false) (omega arith), omega (arith, w.n-is))
+    ]
 
 -- what all turns leave
 total : (c : After-loop-i) →

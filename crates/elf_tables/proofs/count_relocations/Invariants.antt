@@ -1,18 +1,11 @@
-use mathlib.Core.Path.{◌≡◌, sym, ap, ◌∙◌}
-use mathlib.Core.Bool.{true, cond}
-use mathlib.Core.Logic.{⊎_elim}
-use Prim.Native.Nat.{ℕ, ◌+◌, ◌-◌, ◌*◌, ◌<◌, ◌≤◌}
-use native.Mathlib.Omega.{arith}
-use borrow.Author.Count.{below_none, below_more}
-use borrow.Author.Tests.{le-leb, lt-leb, not-true, not-false}
+use mathlib.Core.Path.{◌≡◌}
+use mathlib.Core.Bool.{true}
+use Prim.Native.Nat.{ℕ, ◌-◌, ◌*◌, ◌<◌, ◌≤◌}
 use lib.ListN.{length}
-use Rattle.model.specs.Elf.{entry_count}
 use Rattle.model.specs.ElfRefusals.{header_ok, reloc_table_ok}
 use Rattle.elf_header.specs.Headers.{header_in}
-use Rattle.elf_header.specs.Used.{used_by}
 use Rattle.elf_tables.specs.Numbered.{sections_by}
-use Rattle.elf_tables.specs.Checked.{used_ok, counted_by, entries_fit, entries_to, entries_none, entries-more, count-header, count-table, count-all, few-entries}
-use borrow.Author.Rules.{rules}
+use Rattle.elf_tables.specs.Checked.{used_ok, entries_to}
 use Rattle.elf_tables.proofs.count_relocations.Given as goal
 
 abbrev pub invariant-loop-i : goal.invariant-loop-i

@@ -4,7 +4,6 @@ use Prim.Native.Nat.{◌+◌, ◌*◌}
 use native.Mathlib.Omega.{arith}
 use Rattle.model.specs.Elf.{header_of}
 use Rattle.elf_laws.specs.Places.{part-part}
-use borrow.Author.Rules.{rules}
 use Rattle.elf_tables.proofs.entry_ok.Goals as goal
 
 pub returns : goal.returns

@@ -1,7 +1,6 @@
 -- `elf_tables::file_layout` meets its contract: each place by its reader.
 use Rattle.elf_tables.specs.Numbered.{file_by}
 use Rattle.elf_tables.specs.Placed.{layout_by}
-use borrow.Author.Rules.{rules}
 use Rattle.elf_tables.proofs.file_layout.Goals as goal
 
 pub strings-names-requires : goal.strings-names-requires

@@ -1,7 +1,5 @@
 -- `elf_tables::kind_ok` meets its contract: each test in its turn.
-use borrow.Author.Tests.{not-true, not-false}
 use Rattle.elf_tables.specs.Checked.{kind_by}
-use borrow.Author.Rules.{rules}
 use Rattle.elf_tables.proofs.kind_ok.Goals as goal
 
 pub returns-then-not-first_bytes_ok : goal.returns-then-not-first_bytes_ok

@@ -1,10 +1,10 @@
 -- `elf_tables::linked_type` meets its contract.
-use mathlib.Core.Path.{◌≡◌}
+use mathlib.Core.Path.{◌≡◌, ap}
+use mathlib.Core.Bool.{not}
 use mathlib.Core.Option.{none}
 use native.Mathlib.Omega.{arith}
 use Rattle.elf_tables.specs.Numbered.{section_by, HasNumber, named_by, none-by}
 use Rattle.elf_tables.specs.Checked.{linked_type}
-use borrow.Author.Rules.{rules}
 use Rattle.elf_tables.proofs.linked_type.Goals as goal
 use Rattle.elf_tables.proofs.linked_type.Goals.{Else-not-is_section, Then-not-is_section}
 
@@ -13,14 +13,14 @@ named : (c : Else-not-is_section) →
     HasNumber a.d.now a.h a.n
 named c =
     let a = c.args in
-    named_by a.d.now a.h a.n c.is_section.result c.is_section.ensures c.if-not-is_section.false
+    named_by a.d.now a.h a.n c.is_section.result c.is_section.ensures (ap not c.if-not-is_section.false)
 
 absent : (c : Then-not-is_section) →
     let a = c.args in
     section_by a.d.now a.h a.n ≡ none
 absent c =
     let a = c.args in
-    none-by a.d.now a.h a.n c.is_section.result c.is_section.ensures c.if-not-is_section.true
+    none-by a.d.now a.h a.n c.is_section.result c.is_section.ensures (ap not c.if-not-is_section.true)
 
 pub returns-then-not-is_section : goal.returns-then-not-is_section
 unfolding linked_type

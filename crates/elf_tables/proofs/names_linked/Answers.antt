@@ -4,7 +4,6 @@ use Prim.Native.Nat.{ℕ}
 use borrow.Author.Tests.{eq-eqb, ne_eqb}
 use lib.Dec.{eqb}
 use Rattle.elf_tables.specs.Checked.{links-strings}
-use borrow.Author.Rules.{rules}
 use Rattle.elf_tables.proofs.names_linked.Goals as goal
 
 pub returns-then-f-eq0 : goal.returns-then-f-eq0

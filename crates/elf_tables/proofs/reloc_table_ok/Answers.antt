@@ -7,7 +7,6 @@ use Rattle.model.specs.ElfRefusals.{reloc_table_ok}
 use Rattle.elf_header.specs.Headers.{header_in}
 use Rattle.elf_tables.specs.Numbered.{sections_by}
 use Rattle.elf_tables.specs.Checked.{linked_type, links-data}
-use borrow.Author.Rules.{rules}
 use Rattle.elf_tables.proofs.reloc_table_ok.Goals as goal
 use Rattle.elf_tables.proofs.reloc_table_ok.Goals.{After-is_relocations}
 

@@ -1,7 +1,6 @@
 -- `elf_tables::room_ok` meets its contract: each test in its turn.
 use borrow.Author.Tests.{eq-eqb, ne_eqb, le-leb, lt-leb}
 use Rattle.elf_tables.specs.Checked.{room_ok}
-use borrow.Author.Rules.{rules}
 use Rattle.elf_tables.proofs.room_ok.Goals as goal
 
 pub returns-then-len-gt16777216 : goal.returns-then-len-gt16777216

@@ -1,5 +1,6 @@
 -- `elf_tables::strings` meets its contract: a table that has bytes ends in a file of 16,777,216 bytes at most.
-use mathlib.Core.Path.{◌≡◌, sym, ◌∙◌}
+use mathlib.Core.Path.{◌≡◌, sym, ◌∙◌, ap}
+use mathlib.Core.Bool.{not}
 use mathlib.Core.Option.{none}
 use Prim.Native.Nat.{◌+◌, ◌-◌, ◌≤◌}
 use native.Mathlib.Omega.{arith}
@@ -7,7 +8,6 @@ use borrow.Author.Tests.{ne_eqb}
 use Rattle.elf_header.specs.Headers.{header_in}
 use Rattle.elf_tables.specs.Numbered.{section_by, HasNumber, named_by, none-by}
 use Rattle.elf_tables.specs.Placed.{strings_by}
-use borrow.Author.Rules.{rules}
 use Rattle.elf_tables.proofs.strings.Goals as goal
 use Rattle.elf_tables.proofs.strings.Goals.{After-section_offset-at, Else-not-is_section, Then-not-is_section}
 
@@ -16,19 +16,19 @@ named : (c : Else-not-is_section) →
     HasNumber a.d.now a.h a.n
 named c =
     let a = c.args in
-    named_by a.d.now a.h a.n c.is_section.result c.is_section.ensures c.if-not-is_section.false
+    named_by a.d.now a.h a.n c.is_section.result c.is_section.ensures (ap not c.if-not-is_section.false)
 
 absent : (c : Then-not-is_section) →
     let a = c.args in
     section_by a.d.now a.h a.n ≡ none
 absent c =
     let a = c.args in
-    none-by a.d.now a.h a.n c.is_section.result c.is_section.ensures c.if-not-is_section.true
+    none-by a.d.now a.h a.n c.is_section.result c.is_section.ensures (ap not c.if-not-is_section.true)
 
 bound : (c : After-section_offset-at) → c.section_offset-at.result + c.section_size-bytes.result ≤ 16777216
 unfolding strings_by
 bound c =
-    rw ((named c).is, ← c.section_size-bytes.ensures, ne_eqb _ _ c.if-bytes-eq0.false, ← c.section_offset-at.ensures)
+    rw ((named_by c.args.d.now c.args.h c.args.n c.is_section.result c.is_section.ensures (ap not c.if-not-is_section.false)).is, ← c.section_size-bytes.ensures, ne_eqb _ _ c.if-bytes-eq0.false, ← c.section_offset-at.ensures)
     at c.requires.1
 
 pub returns-then-not-is_section : goal.returns-then-not-is_section

@@ -1,7 +1,5 @@
 -- `elf_tables::symbol_table` meets its contract: no section passed is a symbol table.
-use mathlib.Core.Path.{◌≡◌, sym, ◌∙◌}
-use mathlib.Core.Bool.{false}
-use Prim.Native.Nat.{ℕ, ◌-◌, ◌<◌, ◌≤◌}
+use mathlib.Core.Path.{sym, ◌∙◌}
 use native.Mathlib.Omega.{arith}
 use borrow.Author.Count.{below_none, below_more}
 use borrow.Author.Tests.{eq-eqb, ne_eqb}
@@ -9,7 +7,6 @@ use Rattle.model.specs.Elf.{header_of, is_type}
 use Rattle.elf_header.specs.Headers.{header_in}
 use Rattle.elf_tables.specs.Walks.{find_none, find_first}
 use Rattle.elf_tables.specs.Numbered.{table_by}
-use borrow.Author.Rules.{rules}
 use Rattle.elf_tables.proofs.symbol_table.Goals as goal
 
 pub loop-i-init : goal.loop-i-init

@@ -1,11 +1,11 @@
 -- `elf_tables::symbol_table_fits` meets its contract: each test in its turn.
-use mathlib.Core.Path.{◌≡◌}
+use mathlib.Core.Path.{◌≡◌, ap}
+use mathlib.Core.Bool.{not}
 use mathlib.Core.Option.{none}
 use native.Mathlib.Omega.{arith}
 use Rattle.elf_tables.specs.Numbered.{section_by, HasNumber, named_by, none-by}
 use borrow.Author.Tests.{eq-eqb, ne_eqb, le-leb, lt-leb}
 use Rattle.elf_tables.specs.Checked.{links-strings, symbol_table_fits}
-use borrow.Author.Rules.{rules}
 use Rattle.elf_tables.proofs.symbol_table_fits.Goals as goal
 use Rattle.elf_tables.proofs.symbol_table_fits.Goals.{Else-not-is_section, Then-not-is_section}
 
@@ -14,14 +14,14 @@ named : (c : Else-not-is_section) →
     HasNumber a.d.now a.h a.table
 named c =
     let a = c.args in
-    named_by a.d.now a.h a.table c.is_section.result c.is_section.ensures c.if-not-is_section.false
+    named_by a.d.now a.h a.table c.is_section.result c.is_section.ensures (ap not c.if-not-is_section.false)
 
 absent : (c : Then-not-is_section) →
     let a = c.args in
     section_by a.d.now a.h a.table ≡ none
 absent c =
     let a = c.args in
-    none-by a.d.now a.h a.table c.is_section.result c.is_section.ensures c.if-not-is_section.true
+    none-by a.d.now a.h a.table c.is_section.result c.is_section.ensures (ap not c.if-not-is_section.true)
 
 pub returns-then-not-is_section : goal.returns-then-not-is_section
 unfolding symbol_table_fits

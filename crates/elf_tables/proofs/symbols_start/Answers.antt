@@ -1,11 +1,11 @@
 -- `elf_tables::symbols_start` meets its contract: the second entry begins in a file of 16,777,216 bytes at most.
-use mathlib.Core.Path.{◌≡◌}
+use mathlib.Core.Path.{◌≡◌, ap}
+use mathlib.Core.Bool.{not}
 use mathlib.Core.Option.{none}
 use Prim.Native.Nat.{◌+◌, ◌-◌, ◌≤◌}
 use native.Mathlib.Omega.{arith}
 use borrow.Author.Tests.{eq-eqb, ne_eqb}
 use Rattle.elf_tables.specs.Numbered.{section_by, HasNumber, named_by, none-by}
-use borrow.Author.Rules.{rules}
 use Rattle.elf_tables.proofs.symbols_start.Goals as goal
 use Rattle.elf_tables.proofs.symbols_start.Goals.{After-section_offset, Else-not-is_section, Then-not-is_section}
 
@@ -14,18 +14,18 @@ named : (c : Else-not-is_section) →
     HasNumber a.d.now a.h a.table
 named c =
     let a = c.args in
-    named_by a.d.now a.h a.table c.is_section.result c.is_section.ensures c.if-not-is_section.false
+    named_by a.d.now a.h a.table c.is_section.result c.is_section.ensures (ap not c.if-not-is_section.false)
 
 absent : (c : Then-not-is_section) →
     let a = c.args in
     section_by a.d.now a.h a.table ≡ none
 absent c =
     let a = c.args in
-    none-by a.d.now a.h a.table c.is_section.result c.is_section.ensures c.if-not-is_section.true
+    none-by a.d.now a.h a.table c.is_section.result c.is_section.ensures (ap not c.if-not-is_section.true)
 
 bound : (c : After-section_offset) → c.section_offset.result + 24 ≤ 16777216
 bound c =
-    rw ((named c).is, ← c.entry_count.ensures, ne_eqb (c.entry_count.result - 1) 0 (λ e. omega arith), ← c.section_offset.ensures)
+    rw ((named_by c.args.d.now c.args.h c.args.table c.is_section.result c.is_section.ensures (ap not c.if-not-is_section.false)).is, ← c.entry_count.ensures, ne_eqb (c.entry_count.result - 1) 0 (λ e. omega arith), ← c.section_offset.ensures)
     at c.requires.1
 
 pub returns-then-not-is_section : goal.returns-then-not-is_section

@@ -1,11 +1,7 @@
 -- `elf_tables::used_entries_ok` meets its contract: each section passed is not in use, or its entry size is right.
-use mathlib.Core.Path.{◌≡◌, sym, ◌∙◌}
-use mathlib.Core.Bool.{true}
-use mathlib.Core.Logic.{⊎_elim}
-use Prim.Native.Nat.{ℕ, ◌-◌, ◌<◌, ◌≤◌}
+use mathlib.Core.Path.{sym, ◌∙◌}
 use native.Mathlib.Omega.{arith}
 use borrow.Author.Count.{below_none, below_more}
-use borrow.Author.Tests.{not-true, not-false}
 use Rattle.model.specs.ElfRefusals.{entry_ok}
 use Rattle.elf_header.specs.Headers.{header_in}
 use Rattle.elf_header.specs.Used.{used_by}
@@ -13,8 +9,8 @@ use Rattle.elf_laws.specs.All.{all-of-kept, all-tab}
 use Rattle.elf_tables.specs.Walks.{all-not}
 use Rattle.elf_tables.specs.Numbered.{sections_by}
 use Rattle.elf_tables.specs.Checked.{used_ok}
-use borrow.Author.Rules.{rules}
 use Rattle.elf_tables.proofs.used_entries_ok.Goals as goal
+use Rattle.elf_tables.proofs.used_entries_ok.Goals.{then-in_use+else-not-entry_ok, else-in_use}
 
 pub loop-i-init : goal.loop-i-init
 loop-i-init c = (omega arith, below_none _)
@@ -28,13 +24,14 @@ returns-then-not-entry_ok c =
     (rw (← c.in_use.ensures, c.if-in_use.true, ← c.entry_ok.ensures, c.if-not-entry_ok.true)))
 
 pub loop-i-preserved : goal.loop-i-preserved
-loop-i-preserved c =
-    (
-      omega arith,
-      below_more _ _ c.loop-i.invariant.1
-          (⊎_elim (λ w. rw (← c.in_use.ensures, w.0.true, ← w.1.ensures, not-false w.1.result w.2.false))
-          (λ w. rw (← c.in_use.ensures, w.false)) c.if-in_use.branch),
-    )
+loop-i-preserved c = (
+  omega arith,
+  below_more _ _ c.loop-i.invariant.1
+      (elim c.if-in_use.branch [
+        | then-in_use+else-not-entry_ok w ↦ rw (← c.in_use.ensures, w.if-in_use.true, ← w.entry_ok.ensures, w.if-not-entry_ok.false)
+        | else-in_use w ↦ rw (← c.in_use.ensures, w.if-in_use.false)
+      ]),
+)
 
 pub returns : goal.returns
 returns c =

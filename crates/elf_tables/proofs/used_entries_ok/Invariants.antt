@@ -1,18 +1,9 @@
-use mathlib.Core.Path.{◌≡◌, sym, ◌∙◌}
+use mathlib.Core.Path.{◌≡◌}
 use mathlib.Core.Bool.{true}
-use mathlib.Core.Logic.{⊎_elim}
 use Prim.Native.Nat.{ℕ, ◌-◌, ◌<◌, ◌≤◌}
-use native.Mathlib.Omega.{arith}
-use borrow.Author.Count.{below_none, below_more}
-use borrow.Author.Tests.{not-true, not-false}
 use Rattle.model.specs.ElfRefusals.{entry_ok}
 use Rattle.elf_header.specs.Headers.{header_in}
-use Rattle.elf_header.specs.Used.{used_by}
-use Rattle.elf_laws.specs.All.{all-of-kept, all-tab}
-use Rattle.elf_tables.specs.Walks.{all-not}
-use Rattle.elf_tables.specs.Numbered.{sections_by}
 use Rattle.elf_tables.specs.Checked.{used_ok}
-use borrow.Author.Rules.{rules}
 use Rattle.elf_tables.proofs.used_entries_ok.Given as goal
 
 abbrev pub invariant-loop-i : goal.invariant-loop-i

@@ -1,5 +1,4 @@
 -- `elf_tables::whole_entries` meets its contract.
-use borrow.Author.Rules.{rules}
 use Rattle.elf_tables.proofs.whole_entries.Goals as goal
 
 pub returns : goal.returns
