@@ -1,5 +1,6 @@
 // The load call without the function table: its answer, the lent tables and bytes, and which rows of the function table are to be stored.
 #![tactic(auto)]
+
 ghost use Rattle.std.specs.Prelude.{◌≡◌, ◌&&◌, ◌+◌, ◌≤◌, leb, length};
 ghost use Rattle.model.specs.Lent.{lent_room, outcome_in};
 ghost use Rattle.model.specs.PatchList.{patches_of};
