@@ -1,6 +1,7 @@
 // The rows of the map table: where a map's name lies, its length, the section's index and kind,
 // the symbol or 0, where its own bytes lie, how many they are, and the seven words.
 #![tactic(auto)]
+
 ghost use Rattle.std.specs.Prelude.{◌≡◌, ◌++◌, ℕ, ◌+◌, ◌*◌, ◌^◌, ◌<◌, ◌≤◌, length, get_or, take, drop};
 ghost use Rattle.std.proofs.lemmas.List.Edits.{sets};
 ghost use Rattle.model.specs.SectionKind.{kind_number};

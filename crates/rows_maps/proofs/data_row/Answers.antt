@@ -1,7 +1,6 @@
 -- `rows_maps::data_row` meets its contract: the record read and the numbers of the section's kind are those of the map.
 use Rattle.records.specs.Maps.{section-below}
 use Rattle.rows_maps.specs.Maps.{data_is}
-use borrow.Author.Rules.{rules}
 use Rattle.rows_maps.proofs.data_row.Goals as goal
 
 pub parse_data_map_section-requires : goal.parse_data_map_section-requires

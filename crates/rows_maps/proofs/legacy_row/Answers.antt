@@ -2,7 +2,6 @@
 use Prim.Native.Nat.{◌+◌, ◌≤◌}
 use native.Mathlib.Omega.{arith}
 use Rattle.rows_maps.specs.Maps.{within_by, legacy-is}
-use borrow.Author.Rules.{rules}
 use Rattle.rows_maps.proofs.legacy_row.Goals as goal
 use Rattle.rows_maps.proofs.legacy_row.Goals.{After-member_at-m}
 

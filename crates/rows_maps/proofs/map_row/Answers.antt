@@ -1,6 +1,5 @@
 -- `rows_maps::map_row` meets its contract: by the number's source.
 use mathlib.Core.Path.{sym, ◌∙◌}
-use borrow.Author.Rules.{rules}
 use Rattle.rows_maps.proofs.map_row.Goals as goal
 
 pub data_row-requires : goal.data_row-requires

@@ -1,14 +1,12 @@
 -- `rows_maps::put_map_rows` meets its contract: the rows passed stand in front, and the two places are where the next name and the next own bytes lie.
 use mathlib.Core.Path.{◌≡◌, refl, sym, ◌∙◌}
-use mathlib.Core.List.{◌++◌}
-use Prim.Native.Nat.{ℕ, ◌+◌, ◌-◌, ◌*◌, ◌<◌, ◌≤◌}
+use Prim.Native.Nat.{ℕ, ◌<◌}
 use native.Mathlib.Nat.{add-zero}
 use native.Mathlib.Omega.{arith}
-use borrow.Author.Rules.{rules}
-use lib.ListN.{length, take, drop}
+use lib.ListN.{length}
 use Rattle.model.specs.Bytes.{each}
 use Rattle.model.specs.Lent.{placed}
-use Rattle.rows_maps.specs.Rows.{map_rows, map_name_in, own_bytes_in, place-next, own-next, rows_more}
+use Rattle.rows_maps.specs.Rows.{place-next, own-next, rows_more}
 use Rattle.rows_maps.proofs.put_map_rows.Goals as goal
 
 pub loop-k-init : goal.loop-k-init
@@ -30,13 +28,13 @@ loop-k-preserved c =
     let k : ℕ = c.loop-k.k in
     let m : k < length a.numbers.now = omega (arith, u, c.requires.1) in (
       omega (arith, u),
-      put.auto.0 ∙ c.loop-k.invariant.1,
+      put.auto.t ∙ c.loop-k.invariant.1,
       omega (arith, c.loop-k.invariant.2, r.ensures.name-short),
       omega (arith, c.loop-k.invariant.3, r.ensures.own-short),
       place-next a.d.now a.t.now a.v a.numbers.now k r.result r.ensures.row a.at c.loop-k.place c.loop-k.invariant.4 m,
-      own-next a.d.now a.t.now a.v a.numbers.now k r.result r.ensures.row a.own c.loop-k.own-place c.loop-k.invariant.5 m,
+      own-next a.d.now a.t.now a.v a.numbers.now k r.result r.ensures.row a.own c.loop-k.own_place c.loop-k.invariant.5 m,
       put.ensures
-          ∙ rows_more a.d.now a.t.now a.v a.numbers.now k r.result r.ensures.row a.at a.own c.loop-k.place c.loop-k.own-place a.out.now c.loop-k.out
+          ∙ rows_more a.d.now a.t.now a.v a.numbers.now k r.result r.ensures.row a.at a.own c.loop-k.place c.loop-k.own_place a.out.now c.loop-k.out
           c.loop-k.invariant.4 c.loop-k.invariant.5 m (omega (arith, u, c.requires.5)) c.loop-k.invariant.6,
     )
 

@@ -1,13 +1,9 @@
-use mathlib.Core.Path.{◌≡◌, refl, sym, ◌∙◌}
+use mathlib.Core.Path.{◌≡◌}
 use mathlib.Core.List.{◌++◌}
-use Prim.Native.Nat.{ℕ, ◌+◌, ◌-◌, ◌*◌, ◌<◌, ◌≤◌}
-use native.Mathlib.Nat.{add-zero}
-use native.Mathlib.Omega.{arith}
-use borrow.Author.Rules.{rules}
+use Prim.Native.Nat.{◌+◌, ◌-◌, ◌*◌, ◌≤◌}
 use lib.ListN.{length, take, drop}
 use Rattle.model.specs.Bytes.{each}
-use Rattle.model.specs.Lent.{placed}
-use Rattle.rows_maps.specs.Rows.{map_rows, map_name_in, own_bytes_in, place-next, own-next, rows_more}
+use Rattle.rows_maps.specs.Rows.{map_rows, map_name_in, own_bytes_in}
 use Rattle.rows_maps.proofs.put_map_rows.Given as goal
 
 abbrev pub invariant-loop-k : goal.invariant-loop-k

@@ -7,7 +7,6 @@ use lib.ListN.{length, replicate}
 use lib.Seq.{sets}
 use Rattle.rows_maps.specs.Rows.{seven_words, row_front}
 use Rattle.rows_maps.specs.Stores.{sets-append, zeros-put}
-use borrow.Author.Rules.{rules}
 use Rattle.rows_maps.proofs.put_row.Goals as goal
 
 pub returns : goal.returns
@@ -20,9 +19,9 @@ returns c =
     let t : List ℕ = a.t.now in
     let xs : List ℕ = row_front a.place a.own a.r in
     let ys : List ℕ = seven_words a.r.def in
-    let u : List ℕ = word.new.0 in
+    let u : List ℕ = word.new.t in
     let two : u ≡ sets t i (xs ++ ys) = word.ensures ∙ ap (λ (l : List ℕ). sets l (i + 7) ys) {y = sets t i xs} put.ensures ∙ sets-append xs ys t i (i + 7) (omega arith) in
-    let room : i + 27 ≤ length u = omega (arith, c.requires, word.auto.0, put.auto.0) in
-    zeros-put u zero.new.0 (i + 14) (i + 27) 13 (omega arith) room zero.ensures
+    let room : i + 27 ≤ length u = omega (arith, c.requires, word.auto.t, put.auto.t) in
+    zeros-put u zero.new.t (i + 14) (i + 27) 13 (omega arith) room zero.ensures
     ∙ ap (λ (l : List ℕ). sets l (i + 14) (replicate 13 0)) two
     ∙ sets-append (xs ++ ys) (replicate 13 0) t i (i + 14) (omega arith)

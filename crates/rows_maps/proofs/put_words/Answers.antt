@@ -1,6 +1,5 @@
 -- `rows_maps::put_words` meets its contract: the seven stores are the words.
 use mathlib.Core.Path.{◌∙◌}
-use borrow.Author.Rules.{rules}
 use Rattle.rows_maps.proofs.put_words.Goals as goal
 
 pub returns : goal.returns
