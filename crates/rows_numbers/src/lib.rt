@@ -1,5 +1,6 @@
 // The rows of the function table as numbers, seven a row: section, address, offset, name at, name length, code at, code length.
 #![tactic(auto)]
+
 ghost use Rattle.std.specs.Prelude.{◌≡◌, ◌+◌, ◌*◌, ◌≤◌, length};
 ghost use Rattle.std.proofs.lemmas.List.Edits.{sets};
 ghost use Rattle.model.specs.FunctionNumbers.{row_numbers, flat_rows, rows_in};

@@ -1,12 +1,11 @@
 -- `rows_numbers::fill_rows` meets its contract: the rows passed stand in front, and `at` is what is left behind them.
 use mathlib.Core.Path.{◌≡◌, refl, sym, ap, ◌∙◌}
-use Prim.Native.Nat.{ℕ, ◌-◌, ◌≤◌}
+use Prim.Native.Nat.{ℕ}
 use native.Mathlib.Omega.{arith}
-use borrow.Author.Rules.{rules}
 use lib.ListN.{length}
 use Rattle.model.specs.FunctionNumbers.{rows_in}
 use Rattle.rows_functions.specs.Rows.{made_of}
-use Rattle.rows_functions.specs.Stored.{rest_made, made_at, rest-none, rest-next, readable-rest}
+use Rattle.rows_functions.specs.Stored.{made_at, rest-none, rest-next, readable-rest}
 use Rattle.rows_numbers.specs.Flat.{numbers_stored, stored-none, stored_next, stored-all}
 use Rattle.rows_numbers.proofs.fill_rows.Goals as goal
 
@@ -29,7 +28,7 @@ loop-i-preserved c =
     let k : ℕ = c.loop-i.i in
     let e : m.result ≡ made_at a.d.now a.t.now a.symbols.now a.rows k = m.ensures ∙ ap (made_of a.d.now a.t.now a.symbols.now k) c.loop-i.invariant.2 in (
       omega (arith, t),
-      f.auto.0 ∙ c.loop-i.invariant.1,
+      f.auto.numbers ∙ c.loop-i.invariant.1,
       ap (λ x. x.rest) e ∙ rest-next a.d.now a.t.now a.symbols.now a.rows k,
       f.ensures ∙ stored_next a.d.now a.t.now a.symbols.now a.rows a.numbers.now k c.loop-i.numbers m.result e c.loop-i.invariant.3 (omega (arith, t)),
     )
@@ -39,5 +38,5 @@ returns c =
     let f = c.zero64 in
     let a = c.args in
     let e : c.loop-i.i ≡ rows_in (length a.numbers.now) = omega arith in
-    stored-all a.d.now a.t.now a.symbols.now a.rows a.numbers.now (rows_in (length a.numbers.now)) c.loop-i.numbers f.new.0
+    stored-all a.d.now a.t.now a.symbols.now a.rows a.numbers.now (rows_in (length a.numbers.now)) c.loop-i.numbers f.new.t
     (omega arith) (c.loop-i.invariant.3 ∙ ap (numbers_stored a.d.now a.t.now a.symbols.now a.rows a.numbers.now) e) f.ensures

@@ -1,12 +1,8 @@
-use mathlib.Core.Path.{◌≡◌, refl, sym, ap, ◌∙◌}
-use Prim.Native.Nat.{ℕ, ◌-◌, ◌≤◌}
-use native.Mathlib.Omega.{arith}
-use borrow.Author.Rules.{rules}
+use mathlib.Core.Path.{◌≡◌}
+use Prim.Native.Nat.{◌-◌, ◌≤◌}
 use lib.ListN.{length}
-use Rattle.model.specs.FunctionNumbers.{rows_in}
-use Rattle.rows_functions.specs.Rows.{made_of}
-use Rattle.rows_functions.specs.Stored.{rest_made, made_at, rest-none, rest-next, readable-rest}
-use Rattle.rows_numbers.specs.Flat.{numbers_stored, stored-none, stored_next, stored-all}
+use Rattle.rows_functions.specs.Stored.{rest_made}
+use Rattle.rows_numbers.specs.Flat.{numbers_stored}
 use Rattle.rows_numbers.proofs.fill_rows.Given as goal
 
 abbrev pub invariant-loop-i : goal.invariant-loop-i

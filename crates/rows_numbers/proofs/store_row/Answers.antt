@@ -1,6 +1,5 @@
 -- `rows_numbers::store_row` meets its contract: the seven numbers are the row's.
 use mathlib.Core.Path.{◌∙◌}
-use borrow.Author.Rules.{rules}
 use Rattle.rows_numbers.proofs.store_row.Goals as goal
 
 pub returns : goal.returns
