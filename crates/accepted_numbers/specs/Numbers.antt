@@ -3,7 +3,7 @@ use Rattle.std.specs.Prelude.{◌≡◌, Bool, cond, ◌||◌, not, eqb, leb}
 use Rattle.std.proofs.Math.Path.{refl, ap}
 use Rattle.std.proofs.Common.{sym, ◌∙◌, inl, inr, ⊎_elim, le_of_suc-le-suc, eq-or-lt_of_le}
 use Rattle.std.proofs.Math.Bool.{true, false}
-use mathlib.Core.List.{List, [], ◌∷◌, ◌++◌, map}
+use mathlib.Core.List.{List, [], ◌∷◌, map}
 use Rattle.std.proofs.Math.Option.{Option, none, some}
 use Prim.Native.Nat.{ℕ, zero, suc, ◌+◌, ◌-◌, ◌%◌, ◌<◌, ◌≤◌}
 use native.Mathlib.Omega.{arith}
@@ -34,7 +34,7 @@ use Rattle.catalogue_laws.specs.Numbers.{up_to}
 use Rattle.catalogue_laws.specs.Groups.{all-below}
 use Rattle.catalogue_laws.specs.ByNumber.{members, program_members, text_members, text_order, number_at, programs-by, symbols-by}
 use Rattle.catalogue_laws.specs.Shared.{by_address}
-use Rattle.catalogue_laws.specs.SectionsPrograms.{All, IndexesRising, all-kept, home, sections_in, programs_in}
+use Rattle.catalogue_laws.specs.SectionsPrograms.{All, IndexesRising, all-kept, sections_in, programs_in}
 use Rattle.catalogue_laws.specs.FunctionsMaps.{Inside, inside, inside-programs, inside-walk, function_numbers_in, maps_in, all-rows, all_found, all-sorted, all-∈}
 use Rattle.catalogue_laws.specs.Tables.{table-members}
 use Rattle.catalogue_laws.specs.Walk.{number_in, walk_refusal, walk-met, walk_numbers, text_function_of, met-address}
