@@ -1,5 +1,6 @@
 // The code of functions, by symbol numbers.
 #![tactic(auto)]
+
 ghost use Rattle.std.specs.Prelude.{◌≡◌, ◌++◌, ◌+◌, ◌^◌, ◌<◌, ◌≤◌, length, take, drop};
 ghost use Rattle.records.specs.Readable.{Readable};
 ghost use Rattle.catalogue_numbers.specs.Fits.{FunctionFits};

@@ -2,7 +2,7 @@
 use mathlib.Core.Path.{◌∙◌}
 use Prim.Native.Nat.{ℕ, ◌<◌}
 use native.Mathlib.Omega.{arith}
-use Rattle.stream.specs.Stream.{place, byte_at}
+use Rattle.stream.specs.Stream.{byte_at}
 use Rattle.records.specs.View.{gap_of}
 use Rattle.bytes_code.specs.Code.{CodeFound, found}
 use borrow.Author.Rules.{rules}
@@ -18,7 +18,7 @@ unfolding byte_at
 code_of c =
     let m = c.member_at-m in
     let a = c.args in
-    let small : (k : ℕ) → byte_at a.d.now (gap_of a.v) k < 256 = λ k. omega (arith, c.shared_slice_known-1.given (place (gap_of a.v) k)) in
+    let small : (k : ℕ) → byte_at a.d.now (gap_of a.v) k < 256 = λ k. search rules in
     found a.d.now a.t.now a.v a.j c.requires.1 c.requires.0 small m.result.symbol m.result.section c.code_offset-start.result m.ensures.0 m.ensures.1
     c.code_offset-start.ensures
 
@@ -34,7 +34,7 @@ copy_stream-requires c =
 
 pub overflow_add-result : goal.overflow_add-result
 overflow_add-result c =
-    omega (arith, code_of (goal.at.overflow_add-result c).After-code_offset-start, c.well-formed.1.1.1.1.0)
+    omega (arith, code_of (goal.at.overflow_add-result c).After-code_offset-start)
 
 pub returns : goal.returns
 returns c =
