@@ -1,5 +1,5 @@
 -- The view of a deposit that is opened is Readable.
-use Rattle.std.specs.Prelude.{◌≡◌, List, ℕ, ◌+◌, ◌*◌, ◌/◌, ◌<◌, ◌≤◌, length}
+use Rattle.std.specs.Prelude.{◌≡◌, List, ℕ, ◌+◌, ◌*◌, ◌/◌, ◌≤◌, length}
 use Rattle.std.proofs.Common.{arith}
 use Rattle.model.specs.declared.Head.{Head}
 use Rattle.model.specs.Deposit.{end_of}

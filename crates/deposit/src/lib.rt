@@ -1,5 +1,6 @@
 // The call that opens a deposit, or says why it goes back: numbers 1 to 3.
 #![tactic(auto)]
+
 ghost use Rattle.std.specs.Prelude.{◌≡◌};
 ghost use Rattle.deposit.specs.Open.{without_place, checked_stream, opened_of};
 

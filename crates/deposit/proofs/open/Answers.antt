@@ -1,13 +1,11 @@
 -- `deposit::open` meets its contract: number 1, and then what the stream says.
 use mathlib.Core.Path.{◌≡◌, sym, ap, ◌∙◌}
-use borrow.Author.Tests.{not-true, not-false}
 use native.Mathlib.Omega.{arith}
 use Rattle.records.specs.Records.{head_at}
 use Rattle.records.specs.View.{deposit_view}
 use Rattle.deposit_rules.specs.declared.Checked.{Checked}
 use Rattle.object_view.specs.declared.Opened.{Opened}
 use Rattle.deposit.specs.Open.{checked_stream, framed, fine_end, opened-1, opened-checked}
-use borrow.Author.Rules.{rules}
 use Rattle.deposit.proofs.open.Goals as goal
 use Rattle.deposit.proofs.open.Goals.{In-Fine}
 
