@@ -1,5 +1,6 @@
 // Number 2, the rules of a deposit's stream, and number 3: each record and each name that one refers to is looked at once.
 #![tactic(auto)]
+
 ghost use Rattle.std.specs.Prelude.{◌≡◌, ◌+◌, ◌*◌, ◌/◌, ◌^◌, ◌<◌, ◌≤◌, min, max, length};
 ghost use Rattle.model.specs.Deposit.{end_of, all, all_zero, head_ok, within, relocation_ok};
 ghost use Rattle.stream.specs.Stream.{bytes_at, place as place_of};
@@ -87,6 +88,7 @@ pub fn names_ok(d: &[u8], h: Head) -> bool
     name_bytes(d, GAP, names_at(h), size(h.names))
 }
 
+#[tactic(auto, using(std::proofs::lemmas::Bool::Decides::nat_tests), unfolding(crate::specs::Rules::name_ok_at))]
 fn name_ok(d: &[u8], h: Head, clean: bool, e: Extent) -> bool
     requires { (place_of 4 (end_of h) ≤ length d.now) × Clean d.now h clean }
     ensures { result ≡ name_ok_at d.now h e }

@@ -2,45 +2,38 @@
 -- `.BTF` where one of those passed is, or of those to go.
 use mathlib.Core.Path.{◌≡◌, sym, ap, ◌∙◌}
 use mathlib.Core.Bool.{Bool, true, ◌&&◌, ◌||◌, or_assoc, or-false}
-use Prim.Native.Nat.{◌+◌, ◌-◌, ◌<◌}
+use Prim.Native.Nat.{ℕ, ◌+◌, ◌<◌}
 use native.Mathlib.Omega.{arith}
-use borrow.Author.Tests.{lt-ltb, le-ltb, not-true, not-false}
+use borrow.Author.Tests.{lt-ltb, le-ltb}
 use lib.Dec.{ltb}
 use lib.ListN.{drop}
 use Rattle.lists.specs.Tab.{tab}
-use Rattle.records.specs.Records.{deposit_section, cursor, step-record, step_end}
+use Rattle.model.specs.declared.SectionRecord.{SectionRecord}
+use Rattle.records.specs.Records.{deposit_section, step-record, step_end}
 use Rattle.deposit_rules.specs.Rules.{ruled, some_of, section_ok_at, is_btf, sections_ok, some_btf}
 use Rattle.deposit_rules.specs.Checked.{checked_sections}
 use Rattle.deposit_rules.specs.Walk.{ruled-from, ruled-end, some-from, some_end}
-use borrow.Author.Rules.{rules}
 use Rattle.deposit_rules.proofs.check_sections.Goals as goal
-use Rattle.deposit_rules.proofs.check_sections.Goals.{After-deposit_section-s, In-End, In-Record}
+use Rattle.deposit_rules.proofs.check_sections.Goals.{In-End, In-Record}
 
--- the step that was taken
-moved : (c : In-Record) →
-    (c.i-1.given.0.0 ≡ c.loop-i.c.at) × (c.i-1.given.0.1.0 ≡ cursor (c.loop-i.c.at + 1) c.loop-i.c.end) × (c.loop-i.c.at < c.loop-i.c.end)
-moved c =
-    step-record c.loop-i.c c.i-1.given.0.0 c.i-1.given.0.1.0 (sym c.next.ensures ∙ c.in-Record.is)
-
--- what is to be tested, by the record in hand
-to-go : (c : After-deposit_section-s) →
+-- what is to be tested, by the record at place k, which is in hand
+to-go : (c : In-Record) (k : ℕ) (y : SectionRecord) →
     let a = c.args in
-    let y = c.deposit_section-s.result in
-    (sections_ok a.d.now a.h
+    k ≡ c.loop-i.c.at → c.loop-i.c.at < c.loop-i.c.end → y ≡ deposit_section a.d.now k
+    → (sections_ok a.d.now a.h
     ≡ (ltb c.loop-i.last.0 y.index.0
     && (section_ok_at a.d.now a.h y
     && ruled (λ r. r.index.0) (section_ok_at a.d.now a.h) y.index.0 (drop (c.loop-i.c.at + 1) (tab (deposit_section a.d.now) a.h.sections)))))
     × (some_btf a.d.now a.h
     ≡ (c.loop-i.btf || (is_btf a.d.now a.h y || some_of (is_btf a.d.now a.h) (drop (c.loop-i.c.at + 1) (tab (deposit_section a.d.now) a.h.sections)))))
-to-go c =
+to-go c k y at l f =
     let a = c.args in
-    let m = moved c in
-    let e = c.deposit_section-s.ensures ∙ ap (deposit_section a.d.now) m.0 in
+    let e = f ∙ ap (deposit_section a.d.now) at in
     rw e (
       c.loop-i.invariant.1
-          ∙ ruled-from (deposit_section a.d.now) a.h.sections c.loop-i.c.at (λ r. r.index.0) (section_ok_at a.d.now a.h) c.loop-i.last.0 (omega (arith, m)),
+          ∙ ruled-from (deposit_section a.d.now) a.h.sections c.loop-i.c.at (λ r. r.index.0) (section_ok_at a.d.now a.h) c.loop-i.last.0 (omega arith),
       c.loop-i.invariant.2
-          ∙ ap (λ (b : Bool). c.loop-i.btf || b) (some-from (deposit_section a.d.now) a.h.sections c.loop-i.c.at (is_btf a.d.now a.h) (omega (arith, m))),
+          ∙ ap (λ (b : Bool). c.loop-i.btf || b) (some-from (deposit_section a.d.now) a.h.sections c.loop-i.c.at (is_btf a.d.now a.h) (omega arith)),
     )
 
 pub loop-i-init : goal.loop-i-init
@@ -49,22 +42,27 @@ loop-i-init c = (rw c.new-c.ensures, rw c.new-c.ensures, rw c.new-c.ensures)
 
 pub returns-then-index-last : goal.returns-then-index-last
 unfolding checked_sections
-returns-then-index-last c = rw ((to-go (goal.at.returns-then-index-last c).After-deposit_section-s).0, le-ltb _ _ c.if-index-last.true)
+returns-then-index-last c =
+    let m = step-record c.loop-i.c c.in-Record.i c.in-Record.next (sym c.next.ensures ∙ c.in-Record.is) in
+    rw ((to-go (goal.at.returns-then-index-last c).In-Record _ _ m.0 m.2 c.deposit_section-s.ensures).0, le-ltb _ _ c.if-index-last.true)
 
 pub returns-then-not-section_ok : goal.returns-then-not-section_ok
 unfolding checked_sections
 returns-then-not-section_ok c =
+    let m = step-record c.loop-i.c c.in-Record.i c.in-Record.next (sym c.next.ensures ∙ c.in-Record.is) in
     let k = c.section_ok in
-    rw ((to-go (goal.at.returns-then-not-section_ok c).After-deposit_section-s).0, lt-ltb _ _ c.if-index-last.false, ← k.ensures, c.if-not-section_ok.true)
+    rw ((to-go (goal.at.returns-then-not-section_ok c).In-Record _ _ m.0 m.2 c.deposit_section-s.ensures).0, lt-ltb _ _ c.if-index-last.false, ← k.ensures, c.if-not-section_ok.true)
 
 pub loop-i-smaller : goal.loop-i-smaller
-loop-i-smaller c = let m = moved (goal.at.loop-i-smaller c).In-Record in rw m.1 (omega (arith, m.2))
+loop-i-smaller c =
+    let m = step-record c.loop-i.c c.in-Record.i c.in-Record.next (sym c.next.ensures ∙ c.in-Record.is) in
+    rw m.1 (omega (arith, m.2))
 
 pub loop-i-preserved : goal.loop-i-preserved
 loop-i-preserved c =
-    let m = moved (goal.at.loop-i-preserved c).In-Record in
+    let m = step-record c.loop-i.c c.in-Record.i c.in-Record.next (sym c.next.ensures ∙ c.in-Record.is) in
     let k = c.section_ok in
-    let g = to-go (goal.at.loop-i-preserved c).After-deposit_section-s in
+    let g = to-go (goal.at.loop-i-preserved c).In-Record _ _ m.0 m.2 c.deposit_section-s.ensures in
     let a = c.args in
     let rest : Bool = some_of (is_btf a.d.now a.h) (drop (c.loop-i.c.at + 1) (tab (deposit_section a.d.now) a.h.sections)) in (
       rw m.1 c.loop-i.invariant.0,

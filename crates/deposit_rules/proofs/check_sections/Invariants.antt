@@ -1,16 +1,10 @@
-use mathlib.Core.Path.{◌≡◌, sym, ap, ◌∙◌}
-use mathlib.Core.Bool.{Bool, true, ◌&&◌, ◌||◌, or_assoc, or-false}
-use Prim.Native.Nat.{◌+◌, ◌-◌, ◌<◌}
-use native.Mathlib.Omega.{arith}
-use borrow.Author.Tests.{lt-ltb, le-ltb, not-true, not-false}
-use lib.Dec.{ltb}
+use mathlib.Core.Path.{◌≡◌}
+use mathlib.Core.Bool.{◌||◌}
+use Prim.Native.Nat.{◌-◌}
 use lib.ListN.{drop}
 use Rattle.lists.specs.Tab.{tab}
-use Rattle.records.specs.Records.{deposit_section, cursor, step-record, step_end}
+use Rattle.records.specs.Records.{deposit_section}
 use Rattle.deposit_rules.specs.Rules.{ruled, some_of, section_ok_at, is_btf, sections_ok, some_btf}
-use Rattle.deposit_rules.specs.Checked.{checked_sections}
-use Rattle.deposit_rules.specs.Walk.{ruled-from, ruled-end, some-from, some_end}
-use borrow.Author.Rules.{rules}
 use Rattle.deposit_rules.proofs.check_sections.Given as goal
 
 abbrev pub invariant-loop-i : goal.invariant-loop-i

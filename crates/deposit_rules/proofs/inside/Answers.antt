@@ -1,5 +1,4 @@
 -- `deposit_rules::inside` meets its contract: the sum of two 32-bit numbers fits 64 bits.
-use borrow.Author.Rules.{rules}
 use Rattle.deposit_rules.proofs.inside.Goals as goal
 
 pub returns : goal.returns

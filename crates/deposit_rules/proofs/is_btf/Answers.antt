@@ -8,7 +8,6 @@ use Rattle.stream.specs.Stream.{place, byte_at, length-bytes}
 use Rattle.records.specs.Records.{names_at}
 use Rattle.deposit_rules.specs.Rules.{stream_name}
 use Rattle.deposit_rules.specs.Btf.{same_length, btf-number}
-use borrow.Author.Rules.{rules}
 use Rattle.deposit_rules.proofs.is_btf.Goals as goal
 
 pub returns-then-s-ne4 : goal.returns-then-s-ne4

@@ -1,26 +1,23 @@
 -- `deposit_rules::name_bytes` meets its contract: the pieces passed are of bytes 1 to 127, so that all bytes are where those to go are.
 use mathlib.Core.Path.{◌≡◌, sym, ap, ◌∙◌}
-use mathlib.Core.Bool.{Bool, ◌&&◌}
+use mathlib.Core.Bool.{Bool, true, false, ◌&&◌}
 use mathlib.Core.List.{List}
-use Prim.Native.Nat.{ℕ, ◌+◌, ◌-◌, ◌≤◌}
+use Prim.Native.Nat.{ℕ, ◌+◌, ◌-◌}
 use native.Mathlib.Omega.{arith}
-use borrow.Author.Tests.{not-true, not-false}
 use Rattle.model.specs.Deposit.{all}
 use Rattle.model.specs.Bytes.{part}
 use Rattle.stream.specs.Stream.{bytes_at}
 use Rattle.stream.specs.Run.{run_at, Turn, turn}
 use Rattle.deposit_rules.specs.Rules.{name_byte}
 use Rattle.deposit_rules.specs.Names.{all_append}
-use borrow.Author.Rules.{rules}
 use Rattle.deposit_rules.proofs.name_bytes.Goals as goal
-use Rattle.deposit_rules.proofs.name_bytes.Goals.{After-least-m, After-name_piece}
+use Rattle.deposit_rules.proofs.name_bytes.Goals.{After-least-m}
 
-turn-of : (c : After-least-m) →
-    let a = c.args in Turn a.d.now a.gap (a.p + (a.n - c.loop.false)) c.loop.false c.loop.run c.least-m.result
+turn-of : (c : After-least-m) → let a = c.args in Turn a.d.now a.gap (a.p + (a.n - c.loop-left.left)) c.loop-left.left c.loop-left.run c.least-m.result
 turn-of c =
     let a = c.args in
-    let e : a.p + (a.n - c.loop.false) + c.loop.false ≡ a.p + a.n = omega arith in
-    turn a.d.now a.gap (a.p + (a.n - c.loop.false)) c.loop.false c.loop.run c.least-m.result c.loop.invariant.1 (omega arith) (rw e (omega arith))
+    let e : a.p + (a.n - c.loop-left.left) + c.loop-left.left ≡ a.p + a.n = omega arith in
+    turn a.d.now a.gap (a.p + (a.n - c.loop-left.left)) c.loop-left.left c.loop-left.run c.least-m.result c.loop-left.invariant.1 (omega arith) (rw e (omega arith))
     c.least-m.ensures
 
 pub loop-left-init : goal.loop-left-init
@@ -42,25 +39,27 @@ pub slice_bounds-name_piece-end : goal.slice_bounds-name_piece-end
 slice_bounds-name_piece-end c = omega (arith, turn-of (goal.at.slice_bounds-name_piece-end c).After-least-m)
 
 -- what is to go, by the piece in hand
-to-go : (c : After-name_piece) →
+to-go : (c : After-least-m) (b r : Bool) →
     let a = c.args in
-    let q : ℕ = a.p + (a.n - c.loop-left.false) in
+    let q : ℕ = a.p + (a.n - c.loop-left.left) in
     let m : ℕ = c.least-m.result in
-    all name_byte (bytes_at a.d.now a.gap a.p a.n) ≡ (c.name_piece.result && all name_byte (bytes_at a.d.now a.gap (q + m) (c.loop-left.false - m)))
-to-go c =
+    let i : ℕ = c.loop-left.run.at in
+    r ≡ all name_byte (part a.d.now i (i + m - i)) → r ≡ b
+    → all name_byte (bytes_at a.d.now a.gap a.p a.n) ≡ (b && all name_byte (bytes_at a.d.now a.gap (q + m) (c.loop-left.left - m)))
+to-go c b r g t =
     let a = c.args in
-    let q : ℕ = a.p + (a.n - c.loop-left.false) in
+    let q : ℕ = a.p + (a.n - c.loop-left.left) in
     let m : ℕ = c.least-m.result in
     let e : c.loop-left.run.at + m - c.loop-left.run.at ≡ m = omega arith in
-    let f : c.name_piece.result ≡ all name_byte (part a.d.now c.loop-left.run.at m) = rw e at c.name_piece.ensures in
-    let rest : List ℕ = bytes_at a.d.now a.gap (q + m) (c.loop-left.false - m) in
+    let f : r ≡ all name_byte (part a.d.now c.loop-left.run.at m) = rw e at g in
+    let rest : List ℕ = bytes_at a.d.now a.gap (q + m) (c.loop-left.left - m) in
     c.loop-left.invariant.2
     ∙ ap (all name_byte) (turn-of c).piece
     ∙ all_append name_byte (part a.d.now c.loop-left.run.at m) rest
-    ∙ ap (λ (b : Bool). b && all name_byte rest) (sym f)
+    ∙ ap (λ (b : Bool). b && all name_byte rest) (sym f ∙ t)
 
 pub returns-then-not-name_piece : goal.returns-then-not-name_piece
-returns-then-not-name_piece c = sym (to-go (goal.at.returns-then-not-name_piece c).After-name_piece ∙ rw c.if-not-name_piece.true)
+returns-then-not-name_piece c = sym (to-go (goal.at.returns-then-not-name_piece c).After-least-m false c.name_piece.result c.name_piece.ensures c.if-not-name_piece.true)
 
 pub skip-run-requires : goal.skip-run-requires
 skip-run-requires c = omega (arith, turn-of (goal.at.skip-run-requires c).After-least-m)
@@ -76,14 +75,14 @@ loop-left-preserved c =
     let a = c.args in
     let m : ℕ = c.least-m.result in
     let t = turn-of (goal.at.loop-left-preserved c).After-least-m in
-    let e : a.p + (a.n - c.loop-left.false) + m ≡ a.p + (a.n - (c.loop-left.false - m)) = omega (arith, t) in (
+    let e : a.p + (a.n - c.loop-left.left) + m ≡ a.p + (a.n - (c.loop-left.left - m)) = omega (arith, t) in (
       omega (arith, t),
       c.skip-run.ensures ∙ t.moved ∙ ap (run_at a.gap) e,
-      to-go (goal.at.loop-left-preserved c).After-name_piece ∙ rw (c.if-not-name_piece.false, e),
+      to-go (goal.at.loop-left-preserved c).After-least-m true c.name_piece.result c.name_piece.ensures c.if-not-name_piece.false ∙ rw e,
     )
 
 pub returns : goal.returns
 unfolding all bytes_at
 returns c =
-    let e : c.loop-left.false ≡ 0 = omega arith in
+    let e : c.loop-left.left ≡ 0 = omega arith in
     sym (c.loop-left.invariant.2 ∙ rw e)

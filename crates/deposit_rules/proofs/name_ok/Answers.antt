@@ -3,27 +3,18 @@ use mathlib.Core.Path.{sym, ◌∙◌}
 use Prim.Native.Nat.{ℕ, ◌+◌, ◌≤◌}
 use native.Mathlib.Nat.{le_trans}
 use native.Mathlib.Omega.{arith}
-use borrow.Author.Tests.{le-leb, lt-leb, leb-true, not-true, not-false}
+use borrow.Author.Tests.{le-leb, leb-true}
 use Rattle.model.specs.Deposit.{end_of}
 use Rattle.stream.specs.Laws.{place_mono}
 use Rattle.deposit_rules.specs.Rules.{name_ok_at, name-inside}
-use borrow.Author.Rules.{rules}
 use Rattle.deposit_rules.proofs.name_ok.Goals as goal
-
-pub returns-then-e-gt65535 : goal.returns-then-e-gt65535
-unfolding name_ok_at
-returns-then-e-gt65535 c = rw (lt-leb _ _ c.if-e-gt65535.true)
-
-pub returns-then-not-inside : goal.returns-then-not-inside
-unfolding name_ok_at
-returns-then-not-inside c = rw (le-leb _ _ c.if-e-gt65535.false, ← c.inside.ensures, c.if-not-inside.true)
 
 pub returns-then-clean : goal.returns-then-clean
 unfolding name_ok_at
 returns-then-clean c =
     let w = sym c.inside.ensures ∙ c.if-not-inside.false in
     let a = c.args in
-    rw (le-leb _ _ c.if-e-gt65535.false, w) (sym (name-inside a.d.now a.h a.e w (c.requires.1 c.if-clean.true)))
+    rw (le-leb c.args.e.length 65535 (omega arith), w) (sym (name-inside a.d.now a.h a.e w (c.requires.1 c.if-clean.true)))
 
 pub name_bytes-requires : goal.name_bytes-requires
 unfolding end_of
@@ -38,5 +29,5 @@ pub returns : goal.returns
 unfolding name_ok_at
 returns c =
     let w = sym c.inside.ensures ∙ c.if-not-inside.false in
-    rw (le-leb _ _ c.if-e-gt65535.false, w)
+    rw (le-leb c.args.e.length 65535 (omega arith), w)
     (rw (c.names_at.ensures.0, c.size.ensures.0, c.size-2.ensures.0) at c.name_bytes.ensures)

@@ -1,12 +1,10 @@
 -- `deposit_rules::names_ok` meets its contract: the table of names lies inside the deposit.
-use mathlib.Core.Path.{sym}
 use Prim.Native.Nat.{ℕ, ◌+◌, ◌≤◌}
 use native.Mathlib.Nat.{le_trans}
 use native.Mathlib.Omega.{arith}
 use Rattle.model.specs.Deposit.{end_of}
 use Rattle.stream.specs.Laws.{place_mono}
 use Rattle.deposit_rules.specs.Rules.{names_ok}
-use borrow.Author.Rules.{rules}
 use Rattle.deposit_rules.proofs.names_ok.Goals as goal
 
 pub name_bytes-requires : goal.name_bytes-requires

@@ -1,15 +1,10 @@
-use mathlib.Core.Path.{◌≡◌, sym, ap, ◌∙◌}
-use mathlib.Core.Bool.{◌&&◌}
-use Prim.Native.Nat.{◌+◌, ◌-◌, ◌<◌}
-use native.Mathlib.Omega.{arith}
-use borrow.Author.Tests.{not-true, not-false}
+use mathlib.Core.Path.{◌≡◌}
+use Prim.Native.Nat.{◌-◌}
 use lib.ListN.{drop}
 use Rattle.lists.specs.Tab.{tab}
 use Rattle.model.specs.Deposit.{all, relocation_ok}
-use Rattle.records.specs.Records.{deposit_relocation, cursor, step-record, step_end}
+use Rattle.records.specs.Records.{deposit_relocation}
 use Rattle.deposit_rules.specs.Rules.{relocations_ok}
-use Rattle.deposit_rules.specs.Walk.{all_from, all_end}
-use borrow.Author.Rules.{rules}
 use Rattle.deposit_rules.proofs.relocations_ok.Given as goal
 
 abbrev pub invariant-loop-i : goal.invariant-loop-i

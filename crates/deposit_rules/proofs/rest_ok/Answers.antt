@@ -9,7 +9,6 @@ use Rattle.stream.specs.Stream.{place}
 use Rattle.stream.specs.Laws.{bytes-block}
 use Rattle.stream.specs.Framed.{rest-block}
 use Rattle.deposit_rules.specs.Rules.{rest_ok}
-use borrow.Author.Rules.{rules}
 use Rattle.deposit_rules.proofs.rest_ok.Goals as goal
 
 pub returns : goal.returns
@@ -18,7 +17,7 @@ returns c =
     let a = c.args in
     let d = a.d.now in
     let n : ℕ = length d / 512 * 508 - end_of a.h in
-    let e : c.place-i.result + (length d / 512 * 508 - c.end_of_lem.result) - c.place-i.result ≡ n = omega arith in
+    let e : c.place-i.result + (length d / 512 * 508 - c.end_of-end.result) - c.place-i.result ≡ n = omega arith in
     let f : c.place-i.result ≡ place 4 (end_of a.h) = omega arith in
     let p = c.requires in
     let r = rest-block (length d / 512) (end_of a.h) p.0 p.1 in

@@ -1,7 +1,6 @@
 -- `deposit_rules::section_ok` meets its contract: each test in its turn.
-use borrow.Author.Tests.{le-leb, lt-leb, not-true, not-false}
+use borrow.Author.Tests.{le-leb, lt-leb}
 use Rattle.deposit_rules.specs.Rules.{section_ok_at}
-use borrow.Author.Rules.{rules}
 use Rattle.deposit_rules.proofs.section_ok.Goals as goal
 
 pub returns-then-s-gt1 : goal.returns-then-s-gt1

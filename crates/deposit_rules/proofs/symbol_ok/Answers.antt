@@ -1,7 +1,6 @@
 -- `deposit_rules::symbol_ok` meets its contract: each test in its turn.
-use borrow.Author.Tests.{le-leb, lt-leb, eq-eqb, ne_eqb, not-true, not-false}
+use borrow.Author.Tests.{le-leb, lt-leb, eq-eqb, ne_eqb}
 use Rattle.deposit_rules.specs.Rules.{symbol_ok_at}
-use borrow.Author.Rules.{rules}
 use Rattle.deposit_rules.proofs.symbol_ok.Goals as goal
 
 pub returns-then-s-eq0 : goal.returns-then-s-eq0

@@ -1,13 +1,12 @@
 -- `deposit_rules::zeros` meets its contract: the bytes passed are zeros, so that all are where those to go are.
-use mathlib.Core.Path.{◌≡◌, sym, ◌∙◌}
-use Prim.Native.Nat.{◌-◌, ◌≤◌}
+use mathlib.Core.Path.{sym, ◌∙◌}
+use Prim.Native.Nat.{◌≤◌}
 use native.Mathlib.Omega.{arith}
 use borrow.Author.Tests.{eq-eqb, ne_eqb}
 use lib.Dec.{eqb}
-use lib.ListN.{length, drop, drop_of_length-le}
+use lib.ListN.{length, drop_of_length-le}
 use Rattle.model.specs.Deposit.{all, all_zero}
 use Rattle.deposit_rules.specs.Names.{all-next}
-use borrow.Author.Rules.{rules}
 use Rattle.deposit_rules.proofs.zeros.Goals as goal
 
 pub returns-then-b-k-ne0 : goal.returns-then-b-k-ne0

@@ -1,12 +1,7 @@
-use mathlib.Core.Path.{◌≡◌, sym, ◌∙◌}
+use mathlib.Core.Path.{◌≡◌}
 use Prim.Native.Nat.{◌-◌, ◌≤◌}
-use native.Mathlib.Omega.{arith}
-use borrow.Author.Tests.{eq-eqb, ne_eqb}
-use lib.Dec.{eqb}
-use lib.ListN.{length, drop, drop_of_length-le}
-use Rattle.model.specs.Deposit.{all, all_zero}
-use Rattle.deposit_rules.specs.Names.{all-next}
-use borrow.Author.Rules.{rules}
+use lib.ListN.{length, drop}
+use Rattle.model.specs.Deposit.{all_zero}
 use Rattle.deposit_rules.proofs.zeros.Given as goal
 
 abbrev pub invariant-loop-k : goal.invariant-loop-k
