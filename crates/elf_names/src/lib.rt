@@ -1,5 +1,6 @@
 // The lengths of the names that records of an ELF file bear. For long names a memo keeps, at each 1,024th byte of the string table, where the letters stop.
 #![tactic(auto)]
+
 ghost use Rattle.std.specs.Prelude.{◌≡◌, true, ◌+◌, ◌*◌, ◌≤◌, min, length, drop};
 ghost use Rattle.std.proofs.Math.Seq.{slice};
 ghost use Rattle.elf_names.specs.Lengths.{string_table, strings_ok, string_lengths};

@@ -1,12 +1,9 @@
 -- `elf_names::fill` meets its contract: each number is as it was, or it is v and stands between the two.
-use mathlib.Core.Path.{◌≡◌, refl}
+use mathlib.Core.Path.{refl}
 use mathlib.Core.Logic.{inl}
-use Prim.Native.Nat.{◌-◌, ◌≤◌}
 use native.Mathlib.Omega.{arith}
-use lib.ListN.{length, length-set}
-use Rattle.elf_names.specs.Told.{Filled}
+use lib.ListN.{length-set}
 use Rattle.elf_names.specs.Memo.{filled_more}
-use borrow.Author.Rules.{rules}
 use Rattle.elf_names.proofs.fill.Goals as goal
 
 pub loop-j-init : goal.loop-j-init

@@ -1,11 +1,7 @@
-use mathlib.Core.Path.{◌≡◌, refl}
-use mathlib.Core.Logic.{inl}
+use mathlib.Core.Path.{◌≡◌}
 use Prim.Native.Nat.{◌-◌, ◌≤◌}
-use native.Mathlib.Omega.{arith}
-use lib.ListN.{length, length-set}
+use lib.ListN.{length}
 use Rattle.elf_names.specs.Told.{Filled}
-use Rattle.elf_names.specs.Memo.{filled_more}
-use borrow.Author.Rules.{rules}
 use Rattle.elf_names.proofs.fill.Given as goal
 
 abbrev pub invariant-loop-j : goal.invariant-loop-j

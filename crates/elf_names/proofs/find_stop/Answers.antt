@@ -1,11 +1,10 @@
 -- `elf_names::find_stop` meets its contract: the letters from p on reach each place that is looked at, so that they stop where those from there on stop.
 use mathlib.Core.Path.{◌≡◌, sym, ◌∙◌}
-use Prim.Native.Nat.{◌+◌, ◌-◌, ◌*◌, ◌/◌, ◌≤◌}
+use Prim.Native.Nat.{◌+◌, ◌-◌, ◌*◌, ◌/◌}
 use native.Mathlib.Omega.{arith}
 use Rattle.elf_records.specs.Elf.{index_at}
-use Rattle.elf_names.specs.Stop.{stop, stop-within, stop-same}
+use Rattle.elf_names.specs.Stop.{stop-within, stop-same}
 use Rattle.elf_names.specs.Told.{stopped-at, stopped-past}
-use borrow.Author.Rules.{rules}
 use Rattle.elf_names.proofs.find_stop.Goals as goal
 
 pub loop-strings-init : goal.loop-strings-init

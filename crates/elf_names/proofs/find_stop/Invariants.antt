@@ -1,10 +1,6 @@
-use mathlib.Core.Path.{◌≡◌, sym, ◌∙◌}
-use Prim.Native.Nat.{◌+◌, ◌-◌, ◌*◌, ◌/◌, ◌≤◌}
-use native.Mathlib.Omega.{arith}
-use Rattle.elf_records.specs.Elf.{index_at}
-use Rattle.elf_names.specs.Stop.{stop, stop-within, stop-same}
-use Rattle.elf_names.specs.Told.{stopped-at, stopped-past}
-use borrow.Author.Rules.{rules}
+use mathlib.Core.Path.{◌≡◌}
+use Prim.Native.Nat.{◌+◌, ◌-◌, ◌*◌, ◌≤◌}
+use Rattle.elf_names.specs.Stop.{stop}
 use Rattle.elf_names.proofs.find_stop.Given as goal
 
 abbrev pub invariant-loop-strings : goal.invariant-loop-strings

@@ -3,7 +3,6 @@ use mathlib.Core.Path.{sym}
 use Prim.Native.Nat.{◌<◌}
 use native.Mathlib.Omega.{arith}
 use Rattle.elf_names.specs.Stop.{stop, stop-within, name-long, name-cut, name-other, name-fine, name-size}
-use borrow.Author.Rules.{rules}
 use Rattle.elf_names.proofs.judge.Goals as goal
 
 pub returns-then-q-p-gt-LONGEST : goal.returns-then-q-p-gt-LONGEST

@@ -1,7 +1,6 @@
 -- `elf_names::learn_stop` meets its contract: what is filled in holds.
 use native.Mathlib.Omega.{arith}
 use Rattle.elf_names.specs.Memo.{memo-more}
-use borrow.Author.Rules.{rules}
 use Rattle.elf_names.proofs.learn_stop.Goals as goal
 
 pub returns : goal.returns

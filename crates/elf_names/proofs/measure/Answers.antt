@@ -3,7 +3,6 @@ use Prim.Native.Nat.{◌+◌}
 use native.Mathlib.Omega.{arith}
 use lib.ListN.{length}
 use Rattle.elf_names.specs.Told.{stopped-at, told-past, told-there}
-use borrow.Author.Rules.{rules}
 use Rattle.elf_names.proofs.measure.Goals as goal
 
 pub returns-then-end-strings : goal.returns-then-end-strings

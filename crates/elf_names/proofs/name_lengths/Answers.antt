@@ -2,14 +2,13 @@
 use mathlib.Core.Path.{sym}
 use Rattle.lists.specs.Tests.{true-not-false}
 use Rattle.elf_names.specs.Memo.{memo-empty}
-use borrow.Author.Rules.{rules}
 use Rattle.elf_names.proofs.name_lengths.Goals as goal
 
 pub long_lengths-requires : goal.long_lengths-requires
 long_lengths-requires c =
     let s = c.survey in
     let a = c.args in
-    (rw s.auto.1.1.1.1.1.1.0 c.requires.0, c.requires.1, c.requires.2, c.requires.3, c.requires.4, memo-empty a.d.now a.strings a.end s.new.1.1.1.1.1.1.1.0 s.auto.1.1.1.1.1.1.1.0)
+    (rw s.auto.lens c.requires.0, c.requires.1, c.requires.2, c.requires.3, c.requires.4, memo-empty a.d.now a.strings a.end s.new.memo s.auto.memo)
 
 pub returns-in-Fine : goal.returns-in-Fine
 returns-in-Fine c =
@@ -22,4 +21,4 @@ returns-in-Broken c =
 pub returns-in-Long : goal.returns-in-Long
 returns-in-Long c =
     let s = c.survey in
-    rw s.auto.1.1.1.1.1.1.0 at c.long_lengths.ensures
+    rw s.auto.lens at c.long_lengths.ensures

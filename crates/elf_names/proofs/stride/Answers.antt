@@ -1,9 +1,7 @@
 -- `elf_names::stride` meets its contract: from k on the letters stop where they stop from p on.
-use mathlib.Core.Path.{◌≡◌, refl, sym, ◌∙◌}
-use Prim.Native.Nat.{◌-◌, ◌≤◌}
+use mathlib.Core.Path.{refl, sym, ◌∙◌}
 use native.Mathlib.Omega.{arith}
-use Rattle.elf_names.specs.Stop.{stop, no-letter-zero, no-letter-high, is-letter, stop-from, stop-within, stop-letter, stop-other}
-use borrow.Author.Rules.{rules}
+use Rattle.elf_names.specs.Stop.{no-letter-zero, no-letter-high, is-letter, stop-from, stop-within, stop-letter, stop-other}
 use Rattle.elf_names.proofs.stride.Goals as goal
 
 pub loop-k-init : goal.loop-k-init

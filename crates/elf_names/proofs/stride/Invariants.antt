@@ -1,8 +1,6 @@
-use mathlib.Core.Path.{◌≡◌, refl, sym, ◌∙◌}
+use mathlib.Core.Path.{◌≡◌}
 use Prim.Native.Nat.{◌-◌, ◌≤◌}
-use native.Mathlib.Omega.{arith}
-use Rattle.elf_names.specs.Stop.{stop, no-letter-zero, no-letter-high, is-letter, stop-from, stop-within, stop-letter, stop-other}
-use borrow.Author.Rules.{rules}
+use Rattle.elf_names.specs.Stop.{stop}
 use Rattle.elf_names.proofs.stride.Given as goal
 
 abbrev pub invariant-loop-k : goal.invariant-loop-k

@@ -1,8 +1,8 @@
 -- `elf_names::survey` meets its contract: the lengths of the names passed are stored, and those to go decide whether all are fine.
 use mathlib.Core.Path.{◌≡◌, refl, ap, ◌∙◌}
 use mathlib.Core.Bool.{◌&&◌}
-use mathlib.Core.List.{◌++◌, append-nil}
-use Prim.Native.Nat.{ℕ, ◌+◌, ◌-◌, ◌*◌, ◌<◌, ◌≤◌}
+use mathlib.Core.List.{append-nil}
+use Prim.Native.Nat.{ℕ, ◌+◌, ◌*◌, ◌<◌, ◌≤◌}
 use native.Mathlib.Nat.{mul-le-mul_left, mul-suc}
 use native.Mathlib.Omega.{arith}
 use lib.ListN.{length, drop, length-set}
@@ -13,7 +13,6 @@ use Rattle.model.specs.Deposit.{all}
 use Rattle.model.specs.Elf.{string_at}
 use Rattle.model.specs.ElfRefusals.{string_ok}
 use Rattle.elf_names.specs.Lengths.{string_table, name_offset, strings_ok}
-use Rattle.elf_names.specs.Told.{MemoHolds}
 use borrow.Author.Rules.{rules}
 use Rattle.elf_names.proofs.survey.Goals as goal
 use Rattle.elf_names.proofs.survey.Goals.{After-measure, In-loop-i}
@@ -64,7 +63,7 @@ loop-i-preserved c =
     let a = c.args in
     let t = rw c.in-Length.is at c.measure.ensures.0 in
     let f : ℕ → ℕ = λ k. length (string_at (string_table a.d.now a.strings a.end) (name_offset a.order a.d.now a.at a.width k)) in
-    let e : c.n-1.given.0.0 ≡ f c.loop-i.i = t.1 ∙ ap (λ (o : ℕ). length (string_at (string_table a.d.now a.strings a.end) o)) (offset-is (goal.at.loop-i-preserved c).After-measure) in (
+    let e : c.in-Length.n ≡ f c.loop-i.i = t.1 ∙ ap (λ (o : ℕ). length (string_at (string_table a.d.now a.strings a.end) o)) (offset-is (goal.at.loop-i-preserved c).After-measure) in (
       omega arith,
       rw length-set c.loop-i.invariant.1,
       search rules,

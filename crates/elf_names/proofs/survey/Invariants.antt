@@ -1,19 +1,13 @@
-use mathlib.Core.Path.{◌≡◌, refl, ap, ◌∙◌}
-use mathlib.Core.Bool.{◌&&◌}
-use mathlib.Core.List.{◌++◌, append-nil}
-use Prim.Native.Nat.{ℕ, ◌+◌, ◌-◌, ◌*◌, ◌<◌, ◌≤◌}
-use native.Mathlib.Nat.{mul-le-mul_left, mul-suc}
-use native.Mathlib.Omega.{arith}
-use lib.ListN.{length, drop, length-set}
-use lib.Seq.{drop-length}
-use Rattle.lists.specs.Tab.{tab, tab-none, tab-set}
-use Rattle.lists.specs.Walk.{drop-tab-next, drop-tab-none}
+use mathlib.Core.Path.{◌≡◌}
+use mathlib.Core.List.{◌++◌}
+use Prim.Native.Nat.{◌-◌, ◌≤◌}
+use lib.ListN.{length, drop}
+use Rattle.lists.specs.Tab.{tab}
 use Rattle.model.specs.Deposit.{all}
 use Rattle.model.specs.Elf.{string_at}
 use Rattle.model.specs.ElfRefusals.{string_ok}
 use Rattle.elf_names.specs.Lengths.{string_table, name_offset, strings_ok}
 use Rattle.elf_names.specs.Told.{MemoHolds}
-use borrow.Author.Rules.{rules}
 use Rattle.elf_names.proofs.survey.Given as goal
 
 abbrev pub invariant-loop-i : goal.invariant-loop-i
