@@ -1,5 +1,5 @@
 -- A table whose front is stored, and whose rest is cleared.
-use Rattle.std.specs.Prelude.{◌≡◌, List, ◌++◌, ℕ, ◌+◌, ◌-◌, ◌≤◌, length, take, drop, replicate}
+use Rattle.std.specs.Prelude.{◌≡◌, List, ◌++◌, ℕ, ◌-◌, ◌≤◌, length, take, drop, replicate}
 use Rattle.std.proofs.Common.{◌∙◌, arith, length-append, length-take, length-drop, take_at}
 use Rattle.lists.specs.Tab.{tail-put}
 use Rattle.model.specs.Lent.{filled}

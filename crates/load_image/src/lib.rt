@@ -1,5 +1,6 @@
 // The lent tables and bytes of an accepted catalogue: what is in them, and zeros behind.
 #![tactic(auto)]
+
 ghost use Rattle.std.specs.Prelude.{◌≡◌, ◌*◌, ◌≤◌, length, take};
 ghost use Rattle.std.proofs.Math.Option.{none};
 ghost use Rattle.model.specs.Lent.{filled, bytes_of, image_of};

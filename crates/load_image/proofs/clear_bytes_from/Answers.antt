@@ -1,6 +1,5 @@
 -- `load_image::clear_bytes_from` meets its contract.
 use Rattle.load_image.specs.Filled.{tail-cleared}
-use borrow.Author.Rules.{rules}
 use Rattle.load_image.proofs.clear_bytes_from.Goals as goal
 
 pub returns : goal.returns

@@ -6,12 +6,11 @@ use native.Mathlib.Omega.{arith}
 use Rattle.model.specs.Lent.{bytes_of}
 use Rattle.bytes_layout.specs.Parts.{catalogue}
 use Rattle.load_image.specs.Filled.{cleared_from, filled_is}
-use borrow.Author.Rules.{rules}
 use Rattle.load_image.proofs.fill_bytes.Goals as goal
 
 pub clear_bytes_from-requires : goal.clear_bytes_from-requires
 clear_bytes_from-requires c =
-    omega (arith, c.requires.3.end, c.requires.4, c.put.auto.1.1.1.1.1.1.1.1.0)
+    omega (arith, c.requires.3.end, c.requires.4, c.put.auto.out)
 
 pub returns : goal.returns
 returns c =

@@ -7,7 +7,6 @@ use Rattle.bytes_layout.specs.Held.{parts-inside}
 use Rattle.bytes_layout.specs.Parts.{catalogue}
 use Rattle.load_image.specs.Filled.{cleared_from}
 use Rattle.load_image.specs.Tables.{all-maps, maps-filled}
-use borrow.Author.Rules.{rules}
 use Rattle.load_image.proofs.fill_maps.Goals as goal
 
 pub put_map_rows-requires : goal.put_map_rows-requires

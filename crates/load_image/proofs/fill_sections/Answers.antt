@@ -7,7 +7,6 @@ use Rattle.bytes_layout.specs.Held.{parts-inside}
 use Rattle.bytes_layout.specs.Parts.{catalogue}
 use Rattle.load_image.specs.Filled.{cleared_from}
 use Rattle.load_image.specs.Tables.{sections-filled}
-use borrow.Author.Rules.{rules}
 use Rattle.load_image.proofs.fill_sections.Goals as goal
 
 pub put_section_rows-requires : goal.put_section_rows-requires
