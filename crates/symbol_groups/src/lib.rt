@@ -1,5 +1,6 @@
 // All symbols sorted by section, and the group of one section's symbols in them.
 #![tactic(auto)]
+
 ghost use Rattle.std.specs.Prelude.{◌≡◌, ◌<◌, ◌≤◌, length};
 ghost use Rattle.catalogue_laws.specs.Numbers.{up_to};
 ghost use Rattle.catalogue_laws.specs.SortedGroups.{by_section};

@@ -2,7 +2,6 @@
 use mathlib.Core.Path.{ap, ◌∙◌}
 use Rattle.catalogue_laws.specs.Numbers.{up_to}
 use Rattle.symbol_groups.specs.Group.{section-order}
-use borrow.Author.Rules.{rules}
 use Rattle.symbol_groups.proofs.by_section.Goals as goal
 
 pub returns : goal.returns

@@ -1,16 +1,8 @@
 -- `symbol_groups::group_start` meets its contract: those passed so far are below k.
-use Prim.Native.Nat.{◌-◌, ◌<◌, ◌≤◌}
 use mathlib.Core.Path.{ap}
-use lib.ListN.{length}
-use lib.Seq.{slice}
 use native.Mathlib.Omega.{arith}
-use borrow.Author.Rules.{rules}
 use Rattle.model.specs.declared.SectionIndex.{SectionIndex}
-use Rattle.catalogue_laws.specs.SectionsPrograms.{All}
-use Rattle.symbol_groups.specs.Cut.{raw, all_more, all_none}
-use Rattle.symbol_groups.proofs.group_start.Reads as reads
-use Rattle.symbol_groups.proofs.group_start.Lts as lts
-use Rattle.records.proofs.symbol_section.Reads as symbol-section-reads
+use Rattle.symbol_groups.specs.Cut.{all_more, all_none}
 use Rattle.symbol_groups.proofs.group_start.Goals as goal
 
 pub loop-at-init : goal.loop-at-init

@@ -1,15 +1,8 @@
 use Prim.Native.Nat.{◌-◌, ◌<◌, ◌≤◌}
-use mathlib.Core.Path.{ap}
 use lib.ListN.{length}
 use lib.Seq.{slice}
-use native.Mathlib.Omega.{arith}
-use borrow.Author.Rules.{rules}
-use Rattle.model.specs.declared.SectionIndex.{SectionIndex}
 use Rattle.catalogue_laws.specs.SectionsPrograms.{All}
-use Rattle.symbol_groups.specs.Cut.{raw, all_more, all_none}
-use Rattle.symbol_groups.proofs.group_start.Reads as reads
-use Rattle.symbol_groups.proofs.group_start.Lts as lts
-use Rattle.records.proofs.symbol_section.Reads as symbol-section-reads
+use Rattle.symbol_groups.specs.Cut.{raw}
 use Rattle.symbol_groups.proofs.group_start.Given as goal
 
 abbrev pub invariant-loop-at : goal.invariant-loop-at
