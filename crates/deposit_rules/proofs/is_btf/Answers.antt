@@ -3,8 +3,9 @@ use mathlib.Core.Path.{◌≡◌, sym, ◌∙◌}
 use mathlib.Core.List.{List}
 use Prim.Native.Nat.{ℕ, ◌+◌, ◌<◌}
 use native.Mathlib.Omega.{arith}
+use borrow.Author.Rules.{rules}
 use Rattle.model.specs.Bytes.{ascii}
-use Rattle.stream.specs.Stream.{place, byte_at, length-bytes}
+use Rattle.stream.specs.Stream.{byte_at, length-bytes}
 use Rattle.records.specs.Records.{names_at}
 use Rattle.deposit_rules.specs.Rules.{stream_name}
 use Rattle.deposit_rules.specs.Btf.{same_length, btf-number}
@@ -20,7 +21,7 @@ pub returns : goal.returns
 unfolding byte_at
 returns c =
     let a = c.args in
-    let small : (k : ℕ) → byte_at a.d.now 4 k < 256 = λ k. omega (arith, c.shared_slice_known-1.given (place 4 k)) in
+    let small : (k : ℕ) → byte_at a.d.now 4 k < 256 = λ k. search rules in
     let e : a.s.name.length ≡ 4 = omega (arith, c.if-s-ne4.false) in
     rw (c.u32_at.ensures, c.names_at.ensures.0, c.size.ensures.0, e)
     (sym (btf-number a.d.now 4 (names_at a.h + a.s.name.at) small))
