@@ -1,23 +1,21 @@
 -- What holds of an input that is accepted, a deposit or a file: its own refusals let it pass, so its object is `Stated`, and its load is its object's.
-use Rattle.std.specs.Prelude.{◌≡◌, refl, Bool, false, List, [], ℕ, ◌<◌}
+use Rattle.std.specs.Prelude.{◌≡◌, refl, Bool, List, ℕ}
 use Rattle.std.proofs.Common.{sym, ◌∙◌, arith}
 use Rattle.std.proofs.Math.Option.{Option, none, some}
 use Rattle.model.specs.declared.Refusal.{Refusal}
 use Rattle.model.specs.declared.Room.{Room}
-use Rattle.model.specs.Bytes.{maybe, ◌∈◌, AllBytes}
-use Rattle.model.specs.Object.{Symbol, Patch}
+use Rattle.model.specs.Bytes.{maybe, AllBytes}
+use Rattle.model.specs.Object.{Patch}
 use Rattle.model.specs.Catalogue.{Catalogue}
-use Rattle.model.specs.Contents.{catalogue_of}
 use Rattle.model.specs.Patching.{refused, accepted, load}
 use Rattle.model.specs.Deposit.{deposit_refusal, load_deposit}
 use Rattle.model.specs.PatchList.{patches_of}
 use Rattle.model.specs.Lent.{outcome_in, load_of}
 use Rattle.model.specs.ElfRefusals.{elf_refusal, load_elf, load_elf_of}
-use Rattle.guarantees.specs.WordsOfDemand3.{Input, input_bytes, object_read, verdict_on, outcome_on, after}
+use Rattle.guarantees.specs.WordsOfDemand3.{Input, input_bytes, object_read, verdict_on, outcome_on}
 use Rattle.guarantees.specs.AcceptedObjects.{Stated}
-use Rattle.guarantees.specs.AcceptedDeposits.{deposit-stated, symbols-from-1, deposit-passed}
-use Rattle.guarantees.specs.AcceptedFiles.{elf-stated, elf-symbols-from-1}
-use Rattle.guarantees.specs.SecondHalf.{second-half}
+use Rattle.guarantees.specs.AcceptedDeposits.{deposit-stated, deposit-passed}
+use Rattle.guarantees.specs.AcceptedFiles.{elf-stated}
 
 -- 1 to 3 of a deposit; 25, 26 and 3 of a file
 abbrev pub input_refusal : Input → Option Refusal
@@ -52,18 +50,3 @@ input-accepted x ps on c h = go (input_refusal x) refl (sym (verdict-is x ps on)
 pub input-stated : (x : Input) → AllBytes (input_bytes x) → input_refusal x ≡ none → Stated (object_read x)
 input-stated (Input.deposit d) y e = deposit-stated d y (deposit-passed d e)
 input-stated (Input.file f) y e = elf-stated f y
-
-pub input-symbols : (x : Input) (y : Symbol) → input_refusal x ≡ none → y ∈ (object_read x).symbols → 0 < y.index.0
-input-symbols (Input.deposit d) y e m = symbols-from-1 d y (deposit-passed d e) m
-input-symbols (Input.file f) y e m = elf-symbols-from-1 f y m
-
-load_again : (x : Input) (c : Catalogue) → input_refusal x ≡ none → load (object_read x) [] false ≡ accepted c → verdict_on x [] false ≡ accepted c
-load_again x c e h = verdict-is x [] false ∙ rw e h
-
--- what is accepted with a patch list and rewriting on or off is accepted without either, and its catalogue is that one but for what `after` says
-pub input-after : (x : Input) (ps : List Patch) (on : Bool) (c : Catalogue) → verdict_on x ps on ≡ accepted c
-    → (verdict_on x [] false ≡ accepted (catalogue_of (object_read x))) × (c ≡ after (object_read x) ps on (catalogue_of (object_read x)))
-input-after x ps on c h =
-    let (e, k) = input-accepted x ps on c h in
-    let (p, q) = second-half (object_read x) ps on c k in
-    (load_again x (catalogue_of (object_read x)) e p, q)

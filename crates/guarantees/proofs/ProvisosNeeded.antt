@@ -18,7 +18,7 @@ use Rattle.model.specs.Contents.{licence_of, version_of, section_entries, progra
 use Rattle.model.specs.Refusals.{untargeted, reloc_refusal, licence_refusal, version_refusal, passes, program_symbol_refusal, program_refusal, map_symbol_refusal, maps_refusal, shared_refusal, stop_refusal, text_refusal, kind_refusal, section_refusal, object_refusal, bearers, place_refusal, bearer_refusal, entry_refusal, patch_refusal, refusal_of}
 use Rattle.model.specs.Patching.{patch_map, with_maps, patch_maps, patched, rewrite_function, rewritten, Verdict, accepted, finish, load}
 use Rattle.guarantees.specs.WordsOfDemand3.{Stands, FirstHalf, given_by, last_given, map_after, instruction_after, function_after, after}
-use Rattle.guarantees.specs.FirstHalf.{first-half}
+use Rattle.guarantees.proofs.FirstHalf.{first-half}
 use Rattle.guarantees.specs.ProvisosDecided.{is_named, distinct, none_named, maps_free, is_fair, fair-is, rising, all_bytes, all_data, is_stated, stated-is}
 
 -- every definition that a load of an object runs through

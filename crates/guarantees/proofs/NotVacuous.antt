@@ -14,9 +14,9 @@ use Rattle.model.specs.Lent.{placed, section_row, program_row, function_row, map
 use Rattle.model.specs.declared.Room.{Room}
 use Rattle.model.specs.ReadBack.{read_back}
 use Rattle.guarantees.specs.WordsOfDemand3.{Input, FirstHalf, after}
-use Rattle.guarantees.specs.Demand3.{demand-3-first, second-lent}
+use Rattle.guarantees.proofs.Demand3.{demand-3-first, second-lent}
 use Rattle.guarantees.specs.ProvisosDecided.{is_named, distinct, none_named, maps_free, is_fair, fair-is, all_bytes, all_bytes-is}
-use Rattle.guarantees.specs.ProvisosNeeded.{computed_load}
+use Rattle.guarantees.proofs.ProvisosNeeded.{computed_load}
 
 -- every definition that a call runs through
 unfoldable pub run_call : List ℕ → List ℕ → List ℕ → Bool → Room → Outcome
