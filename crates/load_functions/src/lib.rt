@@ -1,6 +1,7 @@
 // The load of what was opened with its function table: a core fills the plain tables and an array of record numbers of one size, and the rows of the
 // function table follow by those.
 #![tactic(auto)]
+
 ghost use Rattle.std.specs.Prelude.{◌≡◌, ◌≤◌};
 ghost use Rattle.model.specs.Lent.{lent, room_in, outcome, outcome_in};
 ghost use Rattle.load_object.specs.Done.{Open, symbol_count, verdict_in};

@@ -1,4 +1,0 @@
-pub mod Again
-pub mod Outer
-pub mod Scratch
-pub mod Sized
