@@ -1,10 +1,9 @@
 -- `map_def::parse_data_map_section` meets its contract: by the kinds, of which only one has a flag.
-use Rattle.std.proofs.Common.{◌≡◌, ◌≢◌, refl, ℕ, cond}
+use Rattle.std.proofs.Common.{◌≡◌, ◌≢◌, refl, ℕ, cond, rules}
 use Rattle.model.specs.declared.EbpfSectionKind.{EbpfSectionKind as Kind}
 use Rattle.model.specs.SectionKind.{is_kind}
 use Rattle.model.specs.Contents.{data_words}
 use Rattle.map_def.proofs.parse_data_map_section.Goals as goal
-use Rattle.map_def.proofs.parse_data_map_section.Goals.{in-Rodata, in_default}
 
 -- the other kinds have no flag
 no_flag : (k : Kind) → (k ≢ Kind.Rodata) → ◌≡◌ {A = ℕ} (cond (is_kind Kind.Rodata k) 128 0) 0
@@ -23,7 +22,4 @@ no_flag Kind.Version h = refl
 
 pub returns : goal.returns
 unfolding data_words
-returns c = elim c.match-kind.branch [
-  | in-Rodata w ↦ rw (w.flags-is, w.in-Rodata.is)
-  | in_default w ↦ rw (w.flags-is, no_flag c.args.kind w.in_default.not-Rodata)
-]
+returns c = search (rules, no_flag)
