@@ -13,7 +13,7 @@ use Rattle.model.specs.ReadBack.{read_back}
 use Rattle.model.specs.Elf.{elf_object_of}
 use Rattle.model.specs.ElfRefusals.{load_elf_of}
 use Rattle.guarantees.specs.WordsOfDemand3.{Input, FirstHalf, after}
-use Rattle.guarantees.specs.Demand3.{demand-3-first, second-lent}
+use Rattle.guarantees.proofs.Demand3.{demand-3-first, second-lent}
 use Rattle.guarantees.specs.ProvisosDecided.{is_named, distinct, none_named, maps_free, is_fair, fair-is, all_bytes, all_bytes-is}
 use Rattle.worked.specs.Write.{text, plain_section, sized_section, func, global, deposit}
 use Rattle.worked.specs.Run.{room}
