@@ -1,5 +1,6 @@
 // Numbers 4 to 17 of an object, and the record numbers that its sections list for each table, by one pass over them.
 #![tactic(auto)]
+
 ghost use Rattle.std.specs.Prelude.{◌≡◌, ℕ, ◌+◌, ◌-◌, ◌^◌, ◌<◌, ◌≤◌, length, get_or};
 ghost use Rattle.std.proofs.Math.Seq.{slice};
 ghost use Rattle.model.specs.declared.EbpfSectionKind.{EbpfSectionKind as Kind};

@@ -1,5 +1,4 @@
 -- `parse_sections::answer` meets its contract: by cases of the check.
-use borrow.Author.Rules.{rules}
 use Rattle.parse_sections.proofs.answer.Goals as goal
 
 pub returns-in-Fine : goal.returns-in-Fine

@@ -4,7 +4,6 @@ use Rattle.record_keys.specs.Keys.{key_of}
 use Rattle.record_keys.specs.declared.By.{By}
 use Rattle.orders.specs.Sort.{by_key, sorted}
 use mathlib.Core.Path.{ap, ◌∙◌}
-use borrow.Author.Rules.{rules}
 use Rattle.parse_sections.proofs.by_address.Goals as goal
 
 pub returns : goal.returns

@@ -1,7 +1,6 @@
 -- `parse_sections::group_of` meets its contract: a section whose index stands for none has no symbols.
 use Rattle.parse_sections.specs.Grouped.{group-none, group-some}
 use mathlib.Core.Path.{sym, ◌∙◌}
-use borrow.Author.Rules.{rules}
 use Rattle.parse_sections.proofs.group_of.Goals as goal
 
 pub returns-then-is_no_section : goal.returns-then-is_no_section

@@ -1,16 +1,16 @@
 -- `parse_sections::list_maps` meets its contract: by the kind.
 use Rattle.parse_sections.specs.Lists.{map_numbers_of}
 use Rattle.parse_sections.specs.Kinds.{other-kind, data-kind}
+use Rattle.parse_sections.proofs.OtherKinds.{not-kind, data-tags}
 use Rattle.model.specs.Contents.{is_data}
 use Rattle.catalogue_laws.specs.Groups.{laid_none, laid_next}
 use Rattle.model.specs.declared.EbpfSectionKind.{EbpfSectionKind as Kind}
 use lib.ListN.{length}
-use Prim.Native.Nat.{ℕ, ◌<◌}
-use mathlib.Core.List.{List, [], ◌∷◌}
+use Prim.Native.Nat.{◌<◌}
+use mathlib.Core.List.{[], ◌∷◌}
 use mathlib.Core.Bool.{false}
 use mathlib.Core.Path.{◌≡◌, refl}
 use native.Mathlib.Omega.{arith}
-use borrow.Author.Rules.{rules}
 use Rattle.parse_sections.proofs.list_maps.Goals as goal
 
 pub returns-in-Maps : goal.returns-in-Maps
@@ -23,19 +23,14 @@ pub returns-in-Bss : goal.returns-in-Bss
 unfolding map_numbers_of
 returns-in-Bss c =
     let a = c.args in
-    let k = c.in-Bss.keys2 in
+    let k = data-tags a.kind c.in-Bss.is in
     let room : a.w < length a.out.now = omega (arith, c.requires.2) in
     rw (other-kind (6 ∷ 4 ∷ 5 ∷ []) Kind.Maps a.kind tt k, data-kind a.kind k, c.map_number.ensures)
     (laid_next (laid_none a.w [] a.out.now refl) a.i (a.i ∷ []) room refl)
-
--- the tags of the kinds without maps
-abbrev others : List ℕ
-others = 0 ∷ 2 ∷ 3 ∷ 7 ∷ 8 ∷ 9 ∷ 10 ∷ 11 ∷ []
 
 pub returns-in_default : goal.returns-in_default
 unfolding map_numbers_of
 returns-in_default c =
     let a = c.args in
-    let k = c.in_default.keys3 in
-    let no : is_data a.kind ≡ false = rw (other-kind others Kind.Bss a.kind tt k, other-kind others Kind.Data a.kind tt k, other-kind others Kind.Rodata a.kind tt k) in
-    laid_none a.w _ a.out.now (rw (other-kind others Kind.Maps a.kind tt k, no))
+    let no : is_data a.kind ≡ false = rw (not-kind Kind.Bss a.kind c.in_default.not-Bss, not-kind Kind.Data a.kind c.in_default.not-Data, not-kind Kind.Rodata a.kind c.in_default.not-Rodata) in
+    laid_none a.w _ a.out.now (rw (not-kind Kind.Maps a.kind c.in_default.not-Maps, no))

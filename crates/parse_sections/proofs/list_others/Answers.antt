@@ -1,6 +1,5 @@
 -- `parse_sections::list_others` meets its contract: one list after the other.
 use mathlib.Core.Path.{refl}
-use borrow.Author.Rules.{rules}
 use Rattle.parse_sections.proofs.list_others.Goals as goal
 
 pub returns : goal.returns

@@ -2,15 +2,14 @@
 use Rattle.parse_sections.specs.Lists.{program_numbers_of}
 use Rattle.parse_sections.specs.Candidates.{copied}
 use Rattle.parse_sections.specs.Grouped.{part_slice}
-use Rattle.parse_sections.specs.Kinds.{other-kind}
+use Rattle.parse_sections.proofs.OtherKinds.{not-kind}
 use Rattle.catalogue_laws.specs.Groups.{laid_none}
 use Rattle.model.specs.declared.EbpfSectionKind.{EbpfSectionKind as Kind}
 use lib.ListN.{length, take, drop}
 use lib.Seq.{slice, length-slice}
 use Prim.Native.Nat.{◌+◌, ◌-◌}
-use mathlib.Core.List.{[], ◌∷◌, ◌++◌}
+use mathlib.Core.List.{◌++◌}
 use mathlib.Core.Path.{◌≡◌, ap, ◌∙◌}
-use borrow.Author.Rules.{rules}
 use Rattle.parse_sections.proofs.list_programs.Goals as goal
 
 pub returns-in-Program : goal.returns-in-Program
@@ -28,4 +27,4 @@ pub returns-in_default : goal.returns-in_default
 unfolding program_numbers_of
 returns-in_default c =
     let a = c.args in
-    laid_none a.at _ a.out.now (rw (other-kind (0 ∷ 1 ∷ 2 ∷ 4 ∷ 5 ∷ 6 ∷ 7 ∷ 8 ∷ 9 ∷ 10 ∷ 11 ∷ []) Kind.Program a.kind tt c.in_default.keys2))
+    laid_none a.at _ a.out.now (rw (not-kind Kind.Program a.kind c.in_default.not-Program))

@@ -3,7 +3,6 @@ use Rattle.parse_sections.specs.Lists.{sections_of}
 use Rattle.catalogue_laws.specs.Groups.{laid_none, laid_next}
 use mathlib.Core.List.{[], ◌∷◌}
 use mathlib.Core.Path.{refl, sym, ◌∙◌}
-use borrow.Author.Rules.{rules}
 use Rattle.parse_sections.proofs.list_section.Goals as goal
 
 pub returns-then-is_btf_ext : goal.returns-then-is_btf_ext

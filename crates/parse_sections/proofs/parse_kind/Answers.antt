@@ -2,12 +2,9 @@
 use Rattle.parse_sections.specs.Answers.{kind-program, kind-text, kind-maps, kind-btf-maps, kind-other}
 use Rattle.model.specs.SectionKind.{kind_of}
 use Rattle.object.specs.View.{section_from}
-use Rattle.parse_sections.specs.Kinds.{other-kind}
+use Rattle.parse_sections.proofs.OtherKinds.{not-kind}
 use Rattle.model.specs.declared.EbpfSectionKind.{EbpfSectionKind as Kind}
-use mathlib.Core.List.{List, [], ◌∷◌}
-use Prim.Native.Nat.{ℕ}
 use mathlib.Core.Path.{sym, ◌∙◌}
-use borrow.Author.Rules.{rules}
 use Rattle.parse_sections.proofs.parse_kind.Goals as goal
 
 pub returns-in-Program : goal.returns-in-Program
@@ -34,14 +31,9 @@ returns-in-BtfMaps c =
     rw (c.answer-in-BtfMaps.ensures, c.of_section.ensures)
     (kind-btf-maps a.d.now a.t.now a.v a.s a.functions.now a.w (sym c.requires.6 ∙ c.in-BtfMaps.is))
 
--- the tags of the kinds that are not looked at
-abbrev others : List ℕ
-others = 0 ∷ 4 ∷ 5 ∷ 6 ∷ 8 ∷ 9 ∷ 10 ∷ 11 ∷ []
-
 pub returns-in_default : goal.returns-in_default
 returns-in_default c =
     let a = c.args in
     let k = kind_of (section_from a.d.now a.t.now a.v a.s) in
-    let o = rw c.requires.6 at c.in_default.keys5 in
-    kind-other a.d.now a.t.now a.v a.s a.functions.now a.w (other-kind others Kind.Program k tt o) (other-kind others Kind.Maps k tt o)
-    (other-kind others Kind.Text k tt o) (other-kind others Kind.BtfMaps k tt o)
+    kind-other a.d.now a.t.now a.v a.s a.functions.now a.w (not-kind Kind.Program k (rw c.requires.6 at c.in_default.not-Program)) (not-kind Kind.Maps k (rw c.requires.6 at c.in_default.not-Maps))
+    (not-kind Kind.Text k (rw c.requires.6 at c.in_default.not-Text)) (not-kind Kind.BtfMaps k (rw c.requires.6 at c.in_default.not-BtfMaps))

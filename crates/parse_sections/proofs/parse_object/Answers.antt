@@ -7,7 +7,6 @@ use lib.ListN.{length, drop}
 use lib.Seq.{length_front}
 use mathlib.Core.List.{◌++◌}
 use mathlib.Core.Path.{◌≡◌, sym, ap, ◌∙◌}
-use borrow.Author.Rules.{rules}
 use Rattle.parse_sections.proofs.parse_object.Goals as goal
 use Rattle.parse_sections.proofs.parse_object.Goals.{After-by_section, After-next_untargeted}
 
@@ -18,17 +17,17 @@ next_known c =
 
 -- the programs' list is as long as it was
 programs-long : (c : After-by_section) → (length (c.by_section.new.tmp ++ drop (c.size-y.result - 0) c.args.programs.now) ≡ length c.args.programs.now)
-programs-long c = length_front c.args.programs.now c.by_section.new.tmp (c.size-y.result - 0) c.by_section.auto.1.1.1.1.0
+programs-long c = length_front c.args.programs.now c.by_section.new.tmp (c.size-y.result - 0) c.by_section.auto.tmp
 
 pub license_refusal-requires : goal.license_refusal-requires
 license_refusal-requires c =
     (ap (λ n. n.license) c.find_named-named.ensures, next_known (goal.at.license_refusal-requires c).After-next_untargeted, c.requires.6)
 
 pub shape_of-next-in-Refused : goal.shape_of-next-in-Refused
-shape_of-next-in-Refused c = c.next_untargeted.auto.1.1.1.0
+shape_of-next-in-Refused c = c.next_untargeted.auto.next
 
 pub shape_of-symbols-in-Refused : goal.shape_of-symbols-in-Refused
-shape_of-symbols-in-Refused c = c.by_section.auto.1.1.1.0
+shape_of-symbols-in-Refused c = c.by_section.auto.symbols
 
 pub shape_of-programs-in-Refused : goal.shape_of-programs-in-Refused
 shape_of-programs-in-Refused c = programs-long (goal.at.shape_of-programs-in-Refused c).After-by_section
@@ -43,10 +42,10 @@ version_refusal-requires c =
     (ap (λ n. n.version) c.find_named-named.ensures, next_known (goal.at.version_refusal-requires c).After-next_untargeted, c.requires.6)
 
 pub shape_of-next-in-Refused-version_refusal : goal.shape_of-next-in-Refused-version_refusal
-shape_of-next-in-Refused-version_refusal c = c.next_untargeted.auto.1.1.1.0
+shape_of-next-in-Refused-version_refusal c = c.next_untargeted.auto.next
 
 pub shape_of-symbols-in-Refused-version_refusal : goal.shape_of-symbols-in-Refused-version_refusal
-shape_of-symbols-in-Refused-version_refusal c = c.by_section.auto.1.1.1.0
+shape_of-symbols-in-Refused-version_refusal c = c.by_section.auto.symbols
 
 pub shape_of-programs-in-Refused-version_refusal : goal.shape_of-programs-in-Refused-version_refusal
 shape_of-programs-in-Refused-version_refusal c = programs-long (goal.at.shape_of-programs-in-Refused-version_refusal c).After-by_section
@@ -70,22 +69,22 @@ parse_sections-requires c =
     (next_known (goal.at.parse_sections-requires c).After-next_untargeted, c.by_section.ensures, q.2, rw (programs-long (goal.at.parse_sections-requires c).After-by_section) q.3, q.4, q.5, q.6, c.license_of-license.ensures, c.version_of-version.ensures)
 
 pub shape_of-next : goal.shape_of-next
-shape_of-next c = c.next_untargeted.auto.1.1.1.0
+shape_of-next c = c.next_untargeted.auto.next
 
 pub shape_of-symbols : goal.shape_of-symbols
-shape_of-symbols c = c.by_section.auto.1.1.1.0
+shape_of-symbols c = c.by_section.auto.symbols
 
 pub shape_of-sections : goal.shape_of-sections
-shape_of-sections c = c.parse_sections.auto.1.1.1.1.1.0
+shape_of-sections c = c.parse_sections.auto.sections
 
 pub shape_of-programs : goal.shape_of-programs
-shape_of-programs c = c.parse_sections.auto.1.1.1.1.1.1.0 ∙ programs-long (goal.at.shape_of-programs c).After-by_section
+shape_of-programs c = c.parse_sections.auto.programs ∙ programs-long (goal.at.shape_of-programs c).After-by_section
 
 pub shape_of-functions : goal.shape_of-functions
-shape_of-functions c = c.parse_sections.auto.1.1.1.1.1.1.1.0
+shape_of-functions c = c.parse_sections.auto.functions
 
 pub shape_of-maps : goal.shape_of-maps
-shape_of-maps c = c.parse_sections.auto.1.1.1.1.1.1.1.1.0
+shape_of-maps c = c.parse_sections.auto.maps
 
 pub returns : goal.returns
 returns c =

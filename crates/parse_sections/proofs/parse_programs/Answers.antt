@@ -2,7 +2,6 @@
 use Rattle.parse_sections.specs.Answers.{answers-refused, answers-fine}
 use Rattle.parse_text.specs.Parsed.{checked-fine, checked_refused}
 use mathlib.Core.Path.{sym, ◌∙◌}
-use borrow.Author.Rules.{rules}
 use Rattle.parse_sections.proofs.parse_programs.Goals as goal
 
 pub returns-in-Refused : goal.returns-in-Refused

@@ -4,7 +4,6 @@ use Rattle.parse_first.specs.Targets.{reaches-untargeted}
 use Rattle.model.specs.SectionKind.{is_kind}
 use Rattle.model.specs.declared.EbpfSectionKind.{EbpfSectionKind as Kind}
 use mathlib.Core.Path.{sym, ap, ◌∙◌}
-use borrow.Author.Rules.{rules}
 use Rattle.parse_sections.proofs.parse_section.Goals as goal
 
 pub returns-then-is_btf_ext : goal.returns-then-is_btf_ext

@@ -3,7 +3,6 @@ use mathlib.Core.Path.{◌≡◌, refl, sym, ap, ◌∙◌}
 use mathlib.Core.List.{◌++◌}
 use Prim.Native.Nat.{◌+◌, ◌-◌, ◌<◌, ◌≤◌}
 use native.Mathlib.Omega.{arith}
-use borrow.Author.Rules.{rules}
 use lib.ListN.{length, take, drop}
 use lib.Seq.{length-take-le, length_front}
 use Rattle.model.specs.SectionKind.{kind_of}
@@ -14,7 +13,7 @@ use Rattle.parse_sections.specs.Candidates.{part_length, length-part-back}
 use Rattle.parse_sections.specs.Grouped.{GroupOf, all-symbols}
 use Rattle.parse_sections.specs.Pass.{Going, SectionAhead, going_start, going_end, going-past, going-refused, going-ahead, going-room, going_next}
 use Rattle.parse_sections.proofs.parse_sections.Goals as goal
-use Rattle.parse_sections.proofs.parse_sections.Goals.{After-group_of-at, After-parse_section, In-Functions-2, In-Record}
+use Rattle.parse_sections.proofs.parse_sections.Goals.{After-group_of-at, After-parse_section, In-Record}
 
 pub loop-i-init : goal.loop-i-init
 loop-i-init c =
@@ -23,17 +22,17 @@ loop-i-init c =
 
 -- the step that was taken
 moved : (c : In-Record) →
-    (c.i-1.given.0.0 ≡ c.loop-i.c.at) × (c.i-1.given.0.1.0 ≡ cursor (c.loop-i.c.at + 1) c.loop-i.c.end) × (c.loop-i.c.at < c.loop-i.c.end)
+    (c.in-Record.i ≡ c.loop-i.c.at) × (c.in-Record.moved ≡ cursor (c.loop-i.c.at + 1) c.loop-i.c.end) × (c.loop-i.c.at < c.loop-i.c.end)
 moved c =
-    step-record c.loop-i.c c.i-1.given.0.0 c.i-1.given.0.1.0 (sym c.next.ensures ∙ c.in-Record.is)
+    step-record c.loop-i.c c.in-Record.i c.in-Record.moved (sym c.next.ensures ∙ c.in-Record.is)
 
 -- the number that it gave: of a section, and those before it are passed
-below : (c : In-Record) → c.i-1.given.0.0 < c.args.v.sections
+below : (c : In-Record) → c.in-Record.i < c.args.v.sections
 below c = let m = moved c in omega (arith, m.0, m.2, c.loop-i.invariant.6)
 
 here : (c : In-Record) →
     let a = c.args in
-    Going a.d.now a.t.now a.v a.symbols.now c.loop-i.sections c.loop-i.programs c.loop-i.functions c.loop-i.maps c.i-1.given.0.0 c.loop-i.from c.loop-i.n
+    Going a.d.now a.t.now a.v a.symbols.now c.loop-i.sections c.loop-i.programs c.loop-i.functions c.loop-i.maps c.in-Record.i c.loop-i.from c.loop-i.n
 here c = rw (moved c).0 c.loop-i.invariant.5
 
 pub group_of-at-requires : goal.group_of-at-requires
@@ -44,55 +43,55 @@ group_of-at-requires c =
 -- the group of the section by number
 group-here : (c : After-group_of-at) →
     let a = c.args in
-    GroupOf a.d.now a.t.now a.v (section_at a.d.now a.t.now a.v c.i-1.given.0.0) a.symbols.now c.loop-i.from c.Group-of.result.lo c.Group-of.result.hi
-group-here c = rw c.section-s.ensures at c.Group-of.ensures
+    GroupOf a.d.now a.t.now a.v (section_at a.d.now a.t.now a.v c.in-Record.i) a.symbols.now c.loop-i.from c.group_of-at.result.lo c.group_of-at.result.hi
+group-here c = rw c.section-s.ensures at c.group_of-at.ensures
 
 -- its end is within the symbols
-few-here : (c : After-group_of-at) → c.Group-of.result.hi ≤ c.args.v.symbols
+few-here : (c : After-group_of-at) → c.group_of-at.result.hi ≤ c.args.v.symbols
 few-here c =
     let a = c.args in
-    omega (arith, c.Group-of.ensures.within, all-symbols a.d.now a.t.now a.v a.symbols.now c.requires.1)
+    omega (arith, c.group_of-at.ensures.within, all-symbols a.d.now a.t.now a.v a.symbols.now c.requires.1)
 
 -- the lists have room for as many
-programs-here : (c : After-group_of-at) → c.Group-of.result.hi ≤ length c.loop-i.programs
+programs-here : (c : After-group_of-at) → c.group_of-at.result.hi ≤ length c.loop-i.programs
 programs-here c = omega (arith, few-here c, c.loop-i.invariant.2, c.requires.3)
 
-functions-here : (c : After-group_of-at) → c.Group-of.result.hi ≤ length c.loop-i.functions
+functions-here : (c : After-group_of-at) → c.group_of-at.result.hi ≤ length c.loop-i.functions
 functions-here c = omega (arith, few-here c, c.loop-i.invariant.3, c.requires.4)
 
-maps-here : (c : After-group_of-at) → c.size-count.result + c.Group-of.result.hi ≤ length c.loop-i.maps
+maps-here : (c : After-group_of-at) → c.size-count.result + c.group_of-at.result.hi ≤ length c.loop-i.maps
 maps-here c = omega (arith, few-here c, c.loop-i.invariant.4, c.requires.5, c.size-count.ensures.0)
 
 -- the places where parts start and end are small
-small-here : (c : After-group_of-at) → c.size-count.result + c.Group-of.result.hi ≤ 69632
+small-here : (c : After-group_of-at) → c.size-count.result + c.group_of-at.result.hi ≤ 69632
 small-here c = omega (arith, few-here c, c.requires.6.few-sections, c.requires.6.few-symbols, c.size-count.ensures.0)
 
 pub overflow_add-a : goal.overflow_add-a
-overflow_add-a c = omega (arith, small-here (goal.at.overflow_add-a c).After-group_of-at, c.Group-of.ensures.upward)
+overflow_add-a c = omega (arith, small-here (goal.at.overflow_add-a c).After-group_of-at, c.group_of-at.ensures.upward)
 
 pub overflow_add-b : goal.overflow_add-b
 overflow_add-b c = omega (arith, small-here (goal.at.overflow_add-b c).After-group_of-at)
 
 pub offset_bounds-programs-lo : goal.offset_bounds-programs-lo
-offset_bounds-programs-lo c = omega (arith, small-here (goal.at.offset_bounds-programs-lo c).After-group_of-at, c.Group-of.ensures.upward)
+offset_bounds-programs-lo c = omega (arith, small-here (goal.at.offset_bounds-programs-lo c).After-group_of-at, c.group_of-at.ensures.upward)
 
 pub slice_bounds-parse_section-count : goal.slice_bounds-parse_section-count
-slice_bounds-parse_section-count c = omega (arith, c.Group-of.ensures.upward)
+slice_bounds-parse_section-count c = omega (arith, c.group_of-at.ensures.upward)
 
 pub slice_bounds-parse_section-start : goal.slice_bounds-parse_section-start
-slice_bounds-parse_section-start c = omega (arith, c.Group-of.ensures.upward)
+slice_bounds-parse_section-start c = omega (arith, c.group_of-at.ensures.upward)
 
 pub slice_bounds-parse_section-end : goal.slice_bounds-parse_section-end
 slice_bounds-parse_section-end c = programs-here (goal.at.slice_bounds-parse_section-end c).After-group_of-at
 
 pub offset_bounds-maps-a : goal.offset_bounds-maps-a
-offset_bounds-maps-a c = omega (arith, small-here (goal.at.offset_bounds-maps-a c).After-group_of-at, c.Group-of.ensures.upward)
+offset_bounds-maps-a c = omega (arith, small-here (goal.at.offset_bounds-maps-a c).After-group_of-at, c.group_of-at.ensures.upward)
 
 pub slice_bounds-parse_section-count-in-Record : goal.slice_bounds-parse_section-count-in-Record
-slice_bounds-parse_section-count-in-Record c = omega (arith, c.Group-of.ensures.upward)
+slice_bounds-parse_section-count-in-Record c = omega (arith, c.group_of-at.ensures.upward)
 
 pub slice_bounds-parse_section-start-in-Record : goal.slice_bounds-parse_section-start-in-Record
-slice_bounds-parse_section-start-in-Record c = omega (arith, c.Group-of.ensures.upward)
+slice_bounds-parse_section-start-in-Record c = omega (arith, c.group_of-at.ensures.upward)
 
 pub slice_bounds-parse_section-end-in-Record : goal.slice_bounds-parse_section-end-in-Record
 slice_bounds-parse_section-end-in-Record c = maps-here (goal.at.slice_bounds-parse_section-end-in-Record c).After-group_of-at
@@ -103,9 +102,9 @@ slice_bounds-parse_section-end-in-Record-2 c = functions-here (goal.at.slice_bou
 pub parse_section-requires : goal.parse_section-requires
 parse_section-requires c =
     let q = c.requires in
-    let g = c.Group-of.ensures in
-    let lo = c.Group-of.result.lo in
-    let hi = c.Group-of.result.hi in
+    let g = c.group_of-at.ensures in
+    let lo = c.group_of-at.result.lo in
+    let hi = c.group_of-at.result.hi in
     let count = c.size-count.result in
     let n0 : hi - 0 ≡ hi = omega arith in
     let up : hi ≡ lo + (hi - lo) = omega (arith, g.upward) in
@@ -124,40 +123,41 @@ parse_section-requires c =
 
 -- the lists that a part was lent of, as long as they were
 programs-kept : (c : After-parse_section) →
-    let lo = c.Group-of.result.lo in
-    length (take lo c.loop-i.programs ++ (c.parse_section.new.group ++ drop (c.Group-of.result.hi - lo) (drop lo c.loop-i.programs))) ≡ length c.args.programs.now
+    let lo = c.group_of-at.result.lo in
+    length (take lo c.loop-i.programs ++ (c.parse_section.new.group ++ drop (c.group_of-at.result.hi - lo) (drop lo c.loop-i.programs))) ≡ length c.args.programs.now
 programs-kept c =
-    length-part-back c.Group-of.result.lo (c.Group-of.result.hi - c.Group-of.result.lo) c.loop-i.programs c.parse_section.new.group c.parse_section.auto.1.1.1.1.1.1.1.1.1.0 ∙ c.loop-i.invariant.2
+    length-part-back c.group_of-at.result.lo (c.group_of-at.result.hi - c.group_of-at.result.lo) c.loop-i.programs c.parse_section.new.group c.parse_section.auto.group ∙ c.loop-i.invariant.2
 
 functions-kept : (c : After-parse_section) →
-    length (c.parse_section.new.functions ++ drop (c.Group-of.result.hi - 0) c.loop-i.functions) ≡ length c.args.functions.now
+    length (c.parse_section.new.functions ++ drop (c.group_of-at.result.hi - 0) c.loop-i.functions) ≡ length c.args.functions.now
 functions-kept c =
-    length_front c.loop-i.functions c.parse_section.new.functions (c.Group-of.result.hi - 0) c.parse_section.auto.1.1.1.1.1.1.1.1.1.1.1.0 ∙ c.loop-i.invariant.3
+    length_front c.loop-i.functions c.parse_section.new.functions (c.group_of-at.result.hi - 0) c.parse_section.auto.functions ∙ c.loop-i.invariant.3
 
 maps-kept : (c : After-parse_section) →
     let count = c.size-count.result in
-    let k = count + c.Group-of.result.lo in
-    length (take k c.loop-i.maps ++ (c.parse_section.new.tmp ++ drop (count + c.Group-of.result.hi - k) (drop k c.loop-i.maps))) ≡ length c.args.maps.now
+    let k = count + c.group_of-at.result.lo in
+    length (take k c.loop-i.maps ++ (c.parse_section.new.tmp ++ drop (count + c.group_of-at.result.hi - k) (drop k c.loop-i.maps))) ≡ length c.args.maps.now
 maps-kept c =
     let count = c.size-count.result in
-    let k = count + c.Group-of.result.lo in
-    length-part-back k (count + c.Group-of.result.hi - k) c.loop-i.maps c.parse_section.new.tmp c.parse_section.auto.1.1.1.1.1.1.1.1.1.1.0 ∙ c.loop-i.invariant.4
+    let k = count + c.group_of-at.result.lo in
+    length-part-back k (count + c.group_of-at.result.hi - k) c.loop-i.maps c.parse_section.new.tmp c.parse_section.auto.tmp ∙ c.loop-i.invariant.4
 
 -- what is listed stands in them still
 going-here : (c : After-parse_section) →
     let a = c.args in
-    let lo = c.Group-of.result.lo in
-    let hi = c.Group-of.result.hi in
+    let lo = c.group_of-at.result.lo in
+    let hi = c.group_of-at.result.hi in
     let count = c.size-count.result in
     Going a.d.now a.t.now a.v a.symbols.now c.loop-i.sections (take lo c.loop-i.programs ++ (c.parse_section.new.group ++ drop (hi - lo) (drop lo c.loop-i.programs))) c.loop-i.functions
-    (take (count + lo) c.loop-i.maps ++ (c.parse_section.new.tmp ++ drop (count + hi - (count + lo)) (drop (count + lo) c.loop-i.maps))) c.i-1.given.0.0 c.loop-i.from c.loop-i.n
+    (take (count + lo) c.loop-i.maps ++ (c.parse_section.new.tmp ++ drop (count + hi - (count + lo)) (drop (count + lo) c.loop-i.maps))) c.in-Record.i c.loop-i.from c.loop-i.n
 going-here c =
     let a = c.args in
-    let lo = c.Group-of.result.lo in
+    let lo = c.group_of-at.result.lo in
     let count = c.size-count.result in
-    let h = c.Group-of.ensures.after in
-    going-past a.d.now a.t.now a.v a.symbols.now c.loop-i.sections c.loop-i.programs c.loop-i.functions c.loop-i.maps c.i-1.given.0.0 c.loop-i.from c.loop-i.n (here c) c.requires.1
-    lo (count + lo) _ _ h (omega (arith, h, c.size-count.ensures.0, below c))
+    let h = c.group_of-at.ensures.after in
+    let m = step-record c.loop-i.c c.in-Record.i c.in-Record.moved (sym c.next.ensures ∙ c.in-Record.is) in
+    going-past a.d.now a.t.now a.v a.symbols.now c.loop-i.sections c.loop-i.programs c.loop-i.functions c.loop-i.maps c.in-Record.i c.loop-i.from c.loop-i.n (rw m.0 c.loop-i.invariant.5) c.requires.1
+    lo (count + lo) _ _ h (omega (arith, h, c.size-count.ensures.0, m.0, m.2, c.loop-i.invariant.6))
 
 pub shape_of-sections-in-Refused : goal.shape_of-sections-in-Refused
 shape_of-sections-in-Refused c = c.loop-i.invariant.1
@@ -174,27 +174,22 @@ shape_of-maps-in-Refused c = maps-kept (goal.at.shape_of-maps-in-Refused c).Afte
 pub returns-in-Refused : goal.returns-in-Refused
 returns-in-Refused c =
     let a = c.args in
-    going-refused a.d.now a.t.now a.v a.symbols.now c.loop-i.sections c.loop-i.programs c.loop-i.functions c.loop-i.maps c.i-1.given.0.0 c.loop-i.from c.loop-i.n (here (goal.at.returns-in-Refused c).In-Record) c.requires.1
-    (below (goal.at.returns-in-Refused c).In-Record) c.requires.6 c.Group-of.result.lo c.Group-of.result.hi (group-here (goal.at.returns-in-Refused c).After-group_of-at) c.parse_section.result _
+    going-refused a.d.now a.t.now a.v a.symbols.now c.loop-i.sections c.loop-i.programs c.loop-i.functions c.loop-i.maps c.in-Record.i c.loop-i.from c.loop-i.n (here (goal.at.returns-in-Refused c).In-Record) c.requires.1
+    (below (goal.at.returns-in-Refused c).In-Record) c.requires.6 c.group_of-at.result.lo c.group_of-at.result.hi (group-here (goal.at.returns-in-Refused c).After-group_of-at) c.parse_section.result _
     (rw c.section-s.ensures at c.parse_section.ensures) _ c.in-Refused.is
-
--- the section is passed
-ahead : (c : In-Functions-2) →
-    let a = c.args in
-    SectionAhead a.d.now a.t.now a.v a.symbols.now (c.parse_section.new.functions ++ drop (c.Group-of.result.hi - 0) c.loop-i.functions) c.i-1.given.0.0 c.Group-of.result.hi c.loop-i.n.functions c.m-1.given.0.0
-ahead c =
-    let a = c.args in
-    going-ahead a.d.now a.t.now a.v a.symbols.now c.loop-i.sections c.loop-i.programs c.loop-i.functions c.loop-i.maps c.i-1.given.0.0 c.loop-i.from c.loop-i.n (here c) c.requires.1
-    (below c) c.requires.6 c.Group-of.result.lo c.Group-of.result.hi (group-here c) c.parse_section.result _
-    (rw c.section-s.ensures at c.parse_section.ensures) _ (functions-here c) c.parse_section.auto.1.1.1.1.1.1.1.1.1.1.1.0 c.in-Functions.is
 
 pub list_others-n-requires : goal.list_others-n-requires
 list_others-n-requires c =
     let a = c.args in
+    let at = goal.at.list_others-n-requires c in
+    let ahead : SectionAhead a.d.now a.t.now a.v a.symbols.now (c.parse_section.new.functions ++ drop (c.group_of-at.result.hi - 0) c.loop-i.functions) c.in-Record.i c.group_of-at.result.hi c.loop-i.n.functions c.in-Functions.m =
+    going-ahead a.d.now a.t.now a.v a.symbols.now c.loop-i.sections c.loop-i.programs c.loop-i.functions c.loop-i.maps c.in-Record.i c.loop-i.from c.loop-i.n (here at.In-Record) c.requires.1
+    (below at.In-Record) c.requires.6 c.group_of-at.result.lo c.group_of-at.result.hi (group-here at.After-group_of-at) c.parse_section.result _
+    (rw c.section-s.ensures at c.parse_section.ensures) _ (functions-here at.After-group_of-at) c.parse_section.auto.functions c.in-Functions.is in
     let q = c.requires in
-    going-room a.d.now a.t.now a.v a.symbols.now c.loop-i.sections _ c.loop-i.functions _ c.i-1.given.0.0 c.loop-i.from c.loop-i.n (going-here (goal.at.list_others-n-requires c).After-parse_section) c.requires.1
-    (below (goal.at.list_others-n-requires c).In-Record) q.6 c.Group-of.result.lo c.Group-of.result.hi (group-here (goal.at.list_others-n-requires c).After-group_of-at) _ _ (ahead (goal.at.list_others-n-requires c).In-Functions-2)
-    (omega (arith, c.loop-i.invariant.1, q.2)) (rw (programs-kept (goal.at.list_others-n-requires c).After-parse_section) q.3) (rw (maps-kept (goal.at.list_others-n-requires c).After-parse_section) q.5)
+    going-room a.d.now a.t.now a.v a.symbols.now c.loop-i.sections _ c.loop-i.functions _ c.in-Record.i c.loop-i.from c.loop-i.n (going-here at.After-parse_section) c.requires.1
+    (below at.In-Record) q.6 c.group_of-at.result.lo c.group_of-at.result.hi (group-here at.After-group_of-at) _ _ ahead
+    (omega (arith, c.loop-i.invariant.1, q.2)) (rw (programs-kept at.After-parse_section) q.3) (rw (maps-kept at.After-parse_section) q.5)
 
 pub loop-i-smaller : goal.loop-i-smaller
 loop-i-smaller c = let m = moved (goal.at.loop-i-smaller c).In-Record in rw m.1 (omega (arith, m.2))
@@ -202,17 +197,22 @@ loop-i-smaller c = let m = moved (goal.at.loop-i-smaller c).In-Record in rw m.1 
 pub loop-i-preserved : goal.loop-i-preserved
 loop-i-preserved c =
     let a = c.args in
-    let k = moved (goal.at.loop-i-preserved c).In-Record in
-    let x = c.list_others-n.auto.1.1.1.1.1.1 in
+    let at = goal.at.loop-i-preserved c in
+    let ahead : SectionAhead a.d.now a.t.now a.v a.symbols.now (c.parse_section.new.functions ++ drop (c.group_of-at.result.hi - 0) c.loop-i.functions) c.in-Record.i c.group_of-at.result.hi c.loop-i.n.functions c.in-Functions.m =
+    going-ahead a.d.now a.t.now a.v a.symbols.now c.loop-i.sections c.loop-i.programs c.loop-i.functions c.loop-i.maps c.in-Record.i c.loop-i.from c.loop-i.n (here at.In-Record) c.requires.1
+    (below at.In-Record) c.requires.6 c.group_of-at.result.lo c.group_of-at.result.hi (group-here at.After-group_of-at) c.parse_section.result _
+    (rw c.section-s.ensures at c.parse_section.ensures) _ (functions-here at.After-group_of-at) c.parse_section.auto.functions c.in-Functions.is in
+    let k = moved at.In-Record in
+    let x = c.list_others-n.auto in
     let e = c.kind_of-kind.ensures ∙ ap (λ s. kind_of (section_from a.d.now a.t.now a.v s)) c.section-s.ensures in (
       rw k.1 (omega (arith, k.2)),
-      x.0 ∙ c.loop-i.invariant.1,
-      x.1.0 ∙ programs-kept (goal.at.loop-i-preserved c).After-parse_section,
-      functions-kept (goal.at.loop-i-preserved c).After-parse_section,
-      x.1.1.1.0 ∙ maps-kept (goal.at.loop-i-preserved c).After-parse_section,
+      x.sections ∙ c.loop-i.invariant.1,
+      x.programs ∙ programs-kept at.After-parse_section,
+      functions-kept at.After-parse_section,
+      x.maps ∙ maps-kept at.After-parse_section,
       rw (k.1, ← k.0)
-          (going_next a.d.now a.t.now a.v a.symbols.now c.loop-i.sections _ c.loop-i.functions _ c.i-1.given.0.0 c.loop-i.from c.loop-i.n (going-here (goal.at.loop-i-preserved c).After-parse_section) c.requires.1
-          (below (goal.at.loop-i-preserved c).In-Record) c.requires.6 c.Group-of.result.lo c.Group-of.result.hi (group-here (goal.at.loop-i-preserved c).After-group_of-at) _ _ (ahead (goal.at.loop-i-preserved c).In-Functions-2)
+          (going_next a.d.now a.t.now a.v a.symbols.now c.loop-i.sections _ c.loop-i.functions _ c.in-Record.i c.loop-i.from c.loop-i.n (going-here at.After-parse_section) c.requires.1
+          (below at.In-Record) c.requires.6 c.group_of-at.result.lo c.group_of-at.result.hi (group-here at.After-group_of-at) _ _ ahead
           c.kind_of-kind.result c.list_others-n.result _ _ _ e c.list_others-n.ensures),
       rw k.1 c.loop-i.invariant.6,
     )

@@ -1,17 +1,7 @@
-use mathlib.Core.Path.{◌≡◌, refl, sym, ap, ◌∙◌}
-use mathlib.Core.List.{◌++◌}
-use Prim.Native.Nat.{◌+◌, ◌-◌, ◌<◌, ◌≤◌}
-use native.Mathlib.Omega.{arith}
-use borrow.Author.Rules.{rules}
-use lib.ListN.{length, take, drop}
-use lib.Seq.{length-take-le, length_front}
-use Rattle.model.specs.SectionKind.{kind_of}
-use Rattle.records.specs.Records.{cursor, step-record, step_end}
-use Rattle.records.specs.View.{section_at}
-use Rattle.object.specs.View.{section_from}
-use Rattle.parse_sections.specs.Candidates.{part_length, length-part-back}
-use Rattle.parse_sections.specs.Grouped.{GroupOf, all-symbols}
-use Rattle.parse_sections.specs.Pass.{Going, SectionAhead, going_start, going_end, going-past, going-refused, going-ahead, going-room, going_next}
+use mathlib.Core.Path.{◌≡◌}
+use Prim.Native.Nat.{◌-◌, ◌≤◌}
+use lib.ListN.{length}
+use Rattle.parse_sections.specs.Pass.{Going}
 use Rattle.parse_sections.proofs.parse_sections.Given as goal
 
 abbrev pub invariant-loop-i : goal.invariant-loop-i

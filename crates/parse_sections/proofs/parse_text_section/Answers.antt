@@ -8,8 +8,11 @@ use Rattle.parse_sections.proofs.parse_text_section.Goals as goal
 pub parse_text_section-requires : goal.parse_text_section-requires
 parse_text_section-requires c =
     let a = c.args in
-    let long = c.by_address.auto.1.1.1.1.1.1.0 in
-    ((search rules, omega (arith, long, c.requires.4), search rules), text-ready a.d.now a.t.now a.v a.s a.symbols.now _ a.lo a.hi c.requires.3 c.requires.1 c.by_address.ensures)
+    let long = c.by_address.auto.group in
+    record {
+      lo_le_hi = (search rules, omega (arith, long, c.requires.4), search rules);
+      hi_value = text-ready a.d.now a.t.now a.v a.s a.symbols.now _ a.lo a.hi c.requires.3 c.requires.1 c.by_address.ensures;
+    }
 
 pub returns : goal.returns
 returns c =
