@@ -119,4 +119,4 @@ module _ (f : List ℕ) (l : Layout) (p : Passes f l) where
       ++ (tab (λ i. length (places_for f (headers_from at) l.table i)) (headers_from at).sections ++ rows (places_for f (headers_from at) l.table) (headers_from at).sections)
       → z ≡ relocation_part f
   unfolding relocation_part
-  relocations-said at z a e = e ∙ rw (a, layout-headers, layout-table)
+  relocations-said at z a e = e ∙ rw (a, layout-headers, layout-table, p.layout, file-count)

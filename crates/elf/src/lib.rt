@@ -1,5 +1,6 @@
 // A file that was checked is opened: its names and relocations are indexed, and number 3.
 #![tactic(auto)]
+
 ghost use Rattle.std.specs.Prelude.{◌≡◌, true, ◌+◌, ◌*◌, ◌≤◌, length};
 ghost use Rattle.model.specs.Deposit.{has_btf};
 ghost use Rattle.model.specs.Elf.{file_of};

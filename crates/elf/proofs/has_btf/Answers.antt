@@ -1,20 +1,17 @@
 -- `elf::has_btf` meets its contract: the cursor is past as many sections as were looked at.
 use mathlib.Core.Path.{◌≡◌, sym, ◌∙◌}
-use Prim.Native.Nat.{◌+◌, ◌-◌, ◌<◌, ◌≤◌}
+use Prim.Native.Nat.{◌+◌, ◌<◌, ◌≤◌}
 use native.Mathlib.Omega.{arith}
-use borrow.Author.Rules.{rules}
-use Rattle.model.specs.Deposit.{has_btf}
-use Rattle.object.specs.View.{object_in}
 use Rattle.records.specs.Records.{cursor, step-record, step_end}
-use Rattle.elf.specs.Btf.{btf_from, btf-next, btf-none, btf-all}
+use Rattle.elf.specs.Btf.{btf-next, btf-none, btf-all}
 use Rattle.elf.proofs.has_btf.Goals as goal
 use Rattle.elf.proofs.has_btf.Goals.{In-Record}
 
 -- the step that was taken
 moved : (c : In-Record) →
-    (c.i-1.given.0.0 ≡ c.loop-i.c.at) × (c.i-1.given.0.1.0 ≡ cursor (c.loop-i.c.at + 1) c.loop-i.c.end) × (c.loop-i.c.at < c.loop-i.c.end)
+    (c.in-Record.i ≡ c.loop-i.c.at) × (c.in-Record.next ≡ cursor (c.loop-i.c.at + 1) c.loop-i.c.end) × (c.loop-i.c.at < c.loop-i.c.end)
 moved c =
-    step-record c.loop-i.c c.i-1.given.0.0 c.i-1.given.0.1.0 (sym c.next.ensures ∙ c.in-Record.is)
+    step-record c.loop-i.c c.in-Record.i c.in-Record.next (sym c.next.ensures ∙ c.in-Record.is)
 
 pub loop-i-init : goal.loop-i-init
 loop-i-init c = let a = c.args in (rw c.new-c.ensures (omega arith), rw c.new-c.ensures, rw c.new-c.ensures (btf-all a.d.now a.t.now a.v))

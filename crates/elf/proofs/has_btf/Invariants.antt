@@ -1,11 +1,8 @@
-use mathlib.Core.Path.{◌≡◌, sym, ◌∙◌}
-use Prim.Native.Nat.{◌+◌, ◌-◌, ◌<◌, ◌≤◌}
-use native.Mathlib.Omega.{arith}
-use borrow.Author.Rules.{rules}
+use mathlib.Core.Path.{◌≡◌}
+use Prim.Native.Nat.{◌-◌, ◌≤◌}
 use Rattle.model.specs.Deposit.{has_btf}
 use Rattle.object.specs.View.{object_in}
-use Rattle.records.specs.Records.{cursor, step-record, step_end}
-use Rattle.elf.specs.Btf.{btf_from, btf-next, btf-none, btf-all}
+use Rattle.elf.specs.Btf.{btf_from}
 use Rattle.elf.proofs.has_btf.Given as goal
 
 abbrev pub invariant-loop-i : goal.invariant-loop-i

@@ -1,7 +1,5 @@
 -- `elf::index` meets its contract: its parts, one after the other.
-use borrow.Author.Tests.{not-true, not-false}
 use Rattle.elf.specs.Told.{sections-broken, symbols-broken, rest-length, index-told}
-use borrow.Author.Rules.{rules}
 use Rattle.elf.proofs.index.Goals as goal
 
 pub returns-then-not-index_section_names : goal.returns-then-not-index_section_names

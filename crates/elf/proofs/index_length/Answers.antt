@@ -1,5 +1,4 @@
 -- `elf::index_length` meets its contract.
-use borrow.Author.Rules.{rules}
 use Rattle.elf.proofs.index_length.Goals as goal
 
 pub returns-in-Layout : goal.returns-in-Layout

@@ -1,6 +1,5 @@
 -- `elf::index_relocations` meets its contract.
 use Rattle.elf.specs.Asked.{relocations-ask, relocations-said}
-use borrow.Author.Rules.{rules}
 use Rattle.elf.proofs.index_relocations.Goals as goal
 
 pub place_relocations-requires : goal.place_relocations-requires

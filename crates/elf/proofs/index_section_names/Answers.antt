@@ -1,6 +1,5 @@
 -- `elf::index_section_names` meets its contract.
 use Rattle.elf.specs.Asked.{sections-ask, sections-said}
-use borrow.Author.Rules.{rules}
 use Rattle.elf.proofs.index_section_names.Goals as goal
 
 pub name_lengths-requires : goal.name_lengths-requires

@@ -1,6 +1,5 @@
 -- `elf::index_symbol_names` meets its contract.
 use Rattle.elf.specs.Asked.{symbols-ask, symbols-said}
-use borrow.Author.Rules.{rules}
 use Rattle.elf.proofs.index_symbol_names.Goals as goal
 
 pub name_lengths-requires : goal.name_lengths-requires

@@ -1,7 +1,6 @@
 -- `elf::is_btf` meets its contract.
 use mathlib.Core.Path.{◌∙◌}
 use Rattle.object.specs.View.{section_from}
-use borrow.Author.Rules.{rules}
 use Rattle.elf.proofs.is_btf.Goals as goal
 
 pub returns : goal.returns

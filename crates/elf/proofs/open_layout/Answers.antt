@@ -1,7 +1,5 @@
 -- `elf::open_layout` meets its contract.
-use borrow.Author.Tests.{not-true, not-false}
 use Rattle.elf.specs.Told.{opens-broken, opens-btf, opens-view}
-use borrow.Author.Rules.{rules}
 use Rattle.elf.proofs.open_layout.Goals as goal
 
 pub returns-then-not-index : goal.returns-then-not-index
