@@ -1,8 +1,9 @@
 // What a load decides of an object that is not refused, before it fills the lent tables: whether its catalogue fits, and what refuses a patch list.
 #![tactic(auto)]
+
 ghost use Rattle.std.specs.Prelude.{◌≡◌, ◌≤◌, length, take};
 ghost use Rattle.std.proofs.Math.Option.{none};
-ghost use Rattle.model.specs.Lent.{too_small as tooSmallOf};
+ghost use Rattle.model.specs.Lent.{too_small as too_small_of};
 ghost use Rattle.model.specs.PatchList.{patches_of};
 ghost use Rattle.model.specs.Refusals.{object_refusal, patch_refusal};
 ghost use Rattle.catalogue_numbers.specs.Numbers.{map_numbers};
@@ -62,7 +63,7 @@ fn fits(room: Room, n: Counts, relocations: usize, bytes: usize) -> bool
 }
 
 fn too_small() -> Refusal
-    ensures { result ≡ tooSmallOf }
+    ensures { result ≡ too_small_of }
 {
     Refusal {
         number: 24,
