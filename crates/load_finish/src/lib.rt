@@ -1,5 +1,6 @@
 // The bytes of a filled catalogue, patched and rewritten.
 #![tactic(auto)]
+
 ghost use Rattle.std.specs.Prelude.{◌≡◌, ◌++◌, ◌+◌, ◌-◌, ◌<◌, ◌≤◌, length, take, drop};
 ghost use Rattle.std.proofs.Math.Option.{none};
 ghost use Rattle.model.specs.Bytes.{each, part};

@@ -13,7 +13,6 @@ use Rattle.object.specs.View.{object_in}
 use Rattle.bytes_layout.specs.Held.{parts-inside}
 use Rattle.bytes_layout.specs.Parts.{catalogue}
 use Rattle.load_finish.specs.Finished.{front-fit, code-ends, functions-encoded, behind-filled, own-there, all_finished, long-done}
-use borrow.Author.Rules.{rules}
 use Rattle.load_finish.proofs.finish_bytes.Goals as goal
 
 pub patch_bytes-requires : goal.patch_bytes-requires
@@ -25,7 +24,7 @@ patch_bytes-requires c =
     let q = c.requires.3 in
     let o = object_in d a.t.now a.v in
     let ps = patches_of a.entries.now a.patches.now in
-    let small : (i : ℕ) → byte_at d (gap_of a.v) i < 256 = λ i. omega (arith, c.shared_slice_known-1.given (place (gap_of a.v) i)) in
+    let small : (i : ℕ) → byte_at d (gap_of a.v) i < 256 = λ i. omega (arith, c.type_inv.d (place (gap_of a.v) i)) in
     let enc = functions-encoded d a.t.now a.v c.requires.0 c.requires.1 small in
     let l = behind-filled (bytes_of k) a.out.now a.places.end q.end c.requires.7 in
     let w = parts-inside k in (
@@ -45,7 +44,7 @@ rewrite_code-requires c =
     let l = behind-filled (bytes_of k) a.out.now a.places.end q.end c.requires.7 in
     let front = front-fit a.d.now a.t.now a.v c.requires.0 c.requires.1 a.functions.now a.n c.requires.4 c.requires.5 in
     let ends = code-ends a.d.now a.t.now a.v c.requires.0 c.requires.1 a.functions.now a.n c.requires.4 c.requires.5 in
-    (c.requires.0, c.requires.4, front, omega (arith, q.code, q.maps, ends), omega (arith, q.maps, q.end, w.maps, c.patch_bytes.auto.1.1.1.1.1.1.1.1.1.1.0, l.2))
+    (c.requires.0, c.requires.4, front, omega (arith, q.code, q.maps, ends), omega (arith, q.maps, q.end, w.maps, c.patch_bytes.auto.out, l.2))
 
 pub returns : goal.returns
 unfolding byte_at
@@ -56,7 +55,7 @@ returns c =
     let q = c.requires.3 in
     let o = object_in d a.t.now a.v in
     let ps = patches_of a.entries.now a.patches.now in
-    let small : (i : ℕ) → byte_at d (gap_of a.v) i < 256 = λ i. omega (arith, c.shared_slice_known-1.given (place (gap_of a.v) i)) in
+    let small : (i : ℕ) → byte_at d (gap_of a.v) i < 256 = λ i. omega (arith, c.type_inv.d (place (gap_of a.v) i)) in
     let enc = functions-encoded d a.t.now a.v c.requires.0 c.requires.1 small in
     let l = behind-filled (bytes_of k) a.out.now a.places.end q.end c.requires.7 in
     let e =

@@ -5,7 +5,6 @@ use lib.ListN.{length}
 use Rattle.object.specs.View.{object_in}
 use Rattle.bytes_layout.specs.Parts.{catalogue}
 use Rattle.load_finish.specs.Finished.{untouched}
-use borrow.Author.Rules.{rules}
 use Rattle.load_finish.proofs.patch_bytes.Goals as goal
 
 pub patch_map_data-requires : goal.patch_map_data-requires

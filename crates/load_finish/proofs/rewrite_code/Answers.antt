@@ -1,7 +1,6 @@
 -- `load_finish::rewrite_code` meets its contract.
 use native.Mathlib.Omega.{arith}
 use lib.ListN.{take}
-use borrow.Author.Rules.{rules}
 use Rattle.bytes_code.specs.Code.{code_at}
 use Rattle.load_finish.specs.Functions.{rewritten-to, unchanged}
 use Rattle.load_finish.proofs.rewrite_code.Goals as goal

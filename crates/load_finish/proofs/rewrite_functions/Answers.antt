@@ -1,11 +1,10 @@
 -- `load_finish::rewrite_functions` meets its contract: the code of the functions passed is rewritten, and the rest as it was.
-use mathlib.Core.Path.{◌≡◌, refl, ap, ◌∙◌}
+use mathlib.Core.Path.{◌≡◌, ap, ◌∙◌}
 use mathlib.Core.Bool.{true}
-use mathlib.Core.List.{List, ◌++◌}
+use mathlib.Core.List.{◌++◌}
 use Prim.Native.Nat.{ℕ, ◌+◌, ◌-◌, ◌≤◌}
 use native.Mathlib.Omega.{arith}
-use borrow.Author.Rules.{rules}
-use lib.ListN.{length, get_or, take, drop}
+use lib.ListN.{length, take, drop}
 use Rattle.model.specs.Bytes.{each, part}
 use Rattle.insn.specs.Sanitized.{sanitized}
 use Rattle.bytes_code.specs.Code.{code_at}

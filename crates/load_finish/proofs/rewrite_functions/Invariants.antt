@@ -1,15 +1,11 @@
-use mathlib.Core.Path.{◌≡◌, refl, ap, ◌∙◌}
+use mathlib.Core.Path.{◌≡◌}
 use mathlib.Core.Bool.{true}
-use mathlib.Core.List.{List, ◌++◌}
-use Prim.Native.Nat.{ℕ, ◌+◌, ◌-◌, ◌≤◌}
-use native.Mathlib.Omega.{arith}
-use borrow.Author.Rules.{rules}
-use lib.ListN.{length, get_or, take, drop}
+use mathlib.Core.List.{◌++◌}
+use Prim.Native.Nat.{◌+◌, ◌-◌, ◌≤◌}
+use lib.ListN.{length, take, drop}
 use Rattle.model.specs.Bytes.{each, part}
 use Rattle.insn.specs.Sanitized.{sanitized}
 use Rattle.bytes_code.specs.Code.{code_at}
-use Rattle.bytes_layout.specs.Next.{next-room, next-end}
-use Rattle.load_finish.specs.Functions.{begin-rewritten, passed-eights, rewritten-long, next-rewritten}
 use Rattle.load_finish.proofs.rewrite_functions.Given as goal
 
 abbrev pub invariant-loop-k : goal.invariant-loop-k
