@@ -37,10 +37,10 @@ def definitions(path):
 
 def modules(names):
     """The files of these modules, in whichever crate they stand."""
-    return [path for name in names for path in glob.glob(os.path.join(TOP, "crates", "*", "specs", f"{name}.antt"))]
+    return [path for name in names for folder in ("specs", "proofs") for path in glob.glob(os.path.join(TOP, "crates", "*", folder, f"{name}.antt"))]
 
 
-MODEL = os.path.dirname(modules(["Refusals"])[0])
+MODEL = os.path.join(TOP, "crates", "model", "specs")
 PAGE = read(os.path.join(TOP, "docs", "SPECIFICATION.md"))
 MODULES = {os.path.basename(path)[: -len(".antt")]: definitions(path) for path in glob.glob(os.path.join(MODEL, "*.antt"))}
 CITED = set(re.findall(r"`([A-Z]\w*\.[^`\s]+)`", PAGE)) - {"Module.name"}
