@@ -1,5 +1,6 @@
 // The load call.
 #![tactic(auto)]
+
 ghost use Rattle.std.specs.Prelude.{◌≡◌};
 ghost use Rattle.model.specs.Lent.{lent, room_in, outcome, load_of};
 
