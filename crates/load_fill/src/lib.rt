@@ -1,5 +1,6 @@
 // Everything that is lent but the function table: cleared where the object is refused, filled where it is accepted; and the summary.
 #![tactic(auto)]
+
 ghost use Rattle.std.specs.Prelude.{◌≡◌, length, replicate};
 ghost use Rattle.model.specs.Lent.{bytes_of, image_of, filled};
 ghost use Rattle.bytes_layout.specs.Parts.{catalogue};

@@ -3,7 +3,6 @@ use mathlib.Core.Path.{◌∙◌}
 use native.Mathlib.Omega.{arith}
 use Rattle.bytes_layout.specs.Parts.{catalogue}
 use Rattle.load_fill.specs.Fills.{relocations-filled}
-use borrow.Author.Rules.{rules}
 use Rattle.load_fill.proofs.fill.Goals as goal
 
 pub overflow_mul-plan : goal.overflow_mul-plan
@@ -16,7 +15,7 @@ pub fill_bytes-requires : goal.fill_bytes-requires
 fill_bytes-requires c = let g = c.requires in (g.readable, g.ok, g.held, g.at, g.room-bytes)
 
 pub shape_of-sections : goal.shape_of-sections
-shape_of-sections c = c.fill_sections.auto.1.1.1.1.1.1.0
+shape_of-sections c = c.fill_sections.auto.out
 
 pub returns : goal.returns
 returns c =

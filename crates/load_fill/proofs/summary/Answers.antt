@@ -1,6 +1,5 @@
 -- `load_fill::summary` meets its contract.
 use Rattle.load_fill.specs.Fills.{summary_by}
-use borrow.Author.Rules.{rules}
 use Rattle.load_fill.proofs.summary.Goals as goal
 
 pub returns : goal.returns
