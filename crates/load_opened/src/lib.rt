@@ -1,5 +1,6 @@
 // The load of what was opened: the array for its functions' record numbers is as large as the count of symbols asks.
 #![tactic(auto)]
+
 ghost use Rattle.std.specs.Prelude.{◌≡◌, leb};
 ghost use Rattle.model.specs.Lent.{lent, room_in, outcome, outcome_in};
 ghost use Rattle.load_object.specs.Done.{Open, symbol_count, verdict_in};
