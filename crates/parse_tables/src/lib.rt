@@ -1,5 +1,6 @@
 // The tables of record numbers of an object, and the call that makes them or says why the object is refused.
 #![tactic(auto)]
+
 ghost use Rattle.std.specs.Prelude.{◌≡◌, ◌+◌, ◌≤◌, length};
 ghost use Rattle.model.specs.Refusals.{object_refusal};
 ghost use Rattle.records.specs.Readable.{Readable};

@@ -5,7 +5,6 @@ use Rattle.catalogue_numbers.specs.Numbers.{section_numbers, program_numbers, fu
 use Rattle.record_keys.specs.Keys.{key_of}
 use Rattle.record_keys.specs.declared.By.{By}
 use native.Mathlib.Omega.{arith}
-use borrow.Author.Rules.{rules}
 use Rattle.parse_tables.proofs.number_tables.Goals as goal
 
 pub table-requires : goal.table-requires
@@ -14,17 +13,17 @@ table-requires c = let q = c.requires in (candidates-inside q.0.of-sections, ome
 pub table-requires-2 : goal.table-requires-2
 table-requires-2 c =
     let q = c.requires in
-    (candidates-inside q.0.of-programs, omega (arith, c.table.auto.1.1.1.1.1.0, q.0.few-programs, q.1))
+    (candidates-inside q.0.of-programs, omega (arith, c.table.auto.tmp, q.0.few-programs, q.1))
 
 pub table-requires-3 : goal.table-requires-3
 table-requires-3 c =
     let q = c.requires in
-    (candidates-inside q.0.of-functions, omega (arith, c.table-2.auto.1.1.1.1.1.0, c.table.auto.1.1.1.1.1.0, q.0.few-functions, q.1))
+    (candidates-inside q.0.of-functions, omega (arith, c.table-2.auto.tmp, c.table.auto.tmp, q.0.few-functions, q.1))
 
 pub table-requires-4 : goal.table-requires-4
 table-requires-4 c =
     let q = c.requires in
-    (candidates-inside q.0.of-maps, omega (arith, c.table-3.auto.1.1.1.1.1.0, c.table-2.auto.1.1.1.1.1.0, c.table.auto.1.1.1.1.1.0, q.0.few-maps, q.1))
+    (candidates-inside q.0.of-maps, omega (arith, c.table-3.auto.tmp, c.table-2.auto.tmp, c.table.auto.tmp, q.0.few-maps, q.1))
 
 pub returns : goal.returns
 unfolding section_numbers program_numbers function_numbers map_numbers

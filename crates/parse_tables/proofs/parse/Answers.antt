@@ -5,7 +5,6 @@ use lib.ListN.{length}
 use lib.Seq.{length_front}
 use Prim.Native.Nat.{◌-◌, ◌≤◌}
 use native.Mathlib.Omega.{arith}
-use borrow.Author.Rules.{rules}
 use Rattle.parse_tables.proofs.parse.Goals as goal
 
 pub parse_object-listed-requires : goal.parse_object-listed-requires
@@ -16,11 +15,10 @@ parse_object-listed-requires c =
     (q.5, lent_length a.symbols.now _ a.v.symbols c.size-y.ensures.0 few, q.0, q.1, q.2, q.3, q.6)
 
 pub number_tables-counts-requires : goal.number_tables-counts-requires
-number_tables-counts-requires c =
-    (
-      rw c.in-Numbers.is at c.parse_object-listed.ensures,
-      rw (length_front c.args.symbols.now c.parse_object-listed.new.symbols (c.size-y.result - 0) c.parse_object-listed.auto.1.1.1.1.0) c.requires.4,
-    )
+number_tables-counts-requires c = (
+  rw c.in-Numbers.is at c.parse_object-listed.ensures,
+  rw (length_front c.args.symbols.now c.parse_object-listed.new.symbols (c.size-y.result - 0) c.parse_object-listed.auto.symbols) c.requires.4,
+)
 
 pub returns-in-Refused : goal.returns-in-Refused
 returns-in-Refused c =
@@ -29,10 +27,10 @@ returns-in-Refused c =
 
 pub shape_of-symbols-in-Numbers : goal.shape_of-symbols-in-Numbers
 shape_of-symbols-in-Numbers c =
-    c.number_tables-counts.auto.1.1.1.1.1.1.1.0 ∙ length_front c.args.symbols.now c.parse_object-listed.new.symbols (c.size-y.result - 0) c.parse_object-listed.auto.1.1.1.1.0
+    c.number_tables-counts.auto.tmp ∙ length_front c.args.symbols.now c.parse_object-listed.new.symbols (c.size-y.result - 0) c.parse_object-listed.auto.symbols
 
 pub shape_of-next-in-Numbers : goal.shape_of-next-in-Numbers
-shape_of-next-in-Numbers c = c.parse_object-listed.auto.1.1.1.0
+shape_of-next-in-Numbers c = c.parse_object-listed.auto.next
 
 pub returns-in-Numbers : goal.returns-in-Numbers
 returns-in-Numbers c =
