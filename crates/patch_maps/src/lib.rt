@@ -1,5 +1,6 @@
 // Where the first map of each section stands in the map table.
 #![tactic(auto)]
+
 ghost use Rattle.std.specs.Prelude.{◌≡◌, ◌++◌, ℕ, ◌^◌, ◌<◌, ◌≤◌, length, get_or, take, drop};
 ghost use Rattle.lists.specs.Tab.{tab};
 ghost use Rattle.records.specs.Readable.{Readable};

@@ -1,11 +1,8 @@
 -- `patch_maps::clear` meets its contract: the first i numbers are 0.
 use mathlib.Core.Path.{◌≡◌, refl, ◌∙◌}
-use mathlib.Core.List.{◌++◌}
-use Prim.Native.Nat.{◌-◌, ◌≤◌}
 use native.Mathlib.Omega.{arith}
-use lib.ListN.{length, drop, length-set}
-use Rattle.lists.specs.Tab.{tab, tab-none, tab-set}
-use borrow.Author.Rules.{rules}
+use lib.ListN.{length-set}
+use Rattle.lists.specs.Tab.{tab-none, tab-set}
 use Rattle.patch_maps.proofs.clear.Goals as goal
 
 pub loop-i-init : goal.loop-i-init

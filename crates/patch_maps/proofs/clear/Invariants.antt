@@ -1,10 +1,8 @@
-use mathlib.Core.Path.{◌≡◌, refl, ◌∙◌}
+use mathlib.Core.Path.{◌≡◌}
 use mathlib.Core.List.{◌++◌}
 use Prim.Native.Nat.{◌-◌, ◌≤◌}
-use native.Mathlib.Omega.{arith}
-use lib.ListN.{length, drop, length-set}
-use Rattle.lists.specs.Tab.{tab, tab-none, tab-set}
-use borrow.Author.Rules.{rules}
+use lib.ListN.{length, drop}
+use Rattle.lists.specs.Tab.{tab}
 use Rattle.patch_maps.proofs.clear.Given as goal
 
 abbrev pub invariant-loop-i : goal.invariant-loop-i

@@ -2,7 +2,6 @@
 use mathlib.Core.Path.{sym, ap, ◌∙◌}
 use Rattle.symbol_section.specs.Owner.{home_of, home-by-record}
 use Rattle.patch_maps.specs.Places.{source_home, map_home}
-use borrow.Author.Rules.{rules}
 use Rattle.patch_maps.proofs.map_home.Goals as goal
 
 pub returns-in-Section : goal.returns-in-Section

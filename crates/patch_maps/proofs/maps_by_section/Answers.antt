@@ -1,11 +1,9 @@
 -- `patch_maps::maps_by_section` meets its contract: by holds the places of the maps from place k on.
 use mathlib.Core.Path.{◌≡◌, refl, ◌∙◌}
-use mathlib.Core.List.{◌++◌}
-use Prim.Native.Nat.{◌+◌, ◌-◌, ◌<◌, ◌≤◌}
+use Prim.Native.Nat.{◌+◌, ◌-◌, ◌<◌}
 use native.Mathlib.Omega.{arith}
-use lib.ListN.{length, get_or, drop, length-set}
-use Rattle.patch_maps.specs.Places.{map_home, home_below, places_from, cleared, places-start, places-more, places-all}
-use borrow.Author.Rules.{rules}
+use lib.ListN.{get_or, drop, length-set}
+use Rattle.patch_maps.specs.Places.{map_home, home_below, cleared, places-start, places-more, places-all}
 use Rattle.patch_maps.proofs.maps_by_section.Goals as goal
 use Rattle.patch_maps.proofs.maps_by_section.Goals.{After-size-i}
 

@@ -1,10 +1,8 @@
-use mathlib.Core.Path.{◌≡◌, refl, ◌∙◌}
+use mathlib.Core.Path.{◌≡◌}
 use mathlib.Core.List.{◌++◌}
-use Prim.Native.Nat.{◌+◌, ◌-◌, ◌<◌, ◌≤◌}
-use native.Mathlib.Omega.{arith}
-use lib.ListN.{length, get_or, drop, length-set}
-use Rattle.patch_maps.specs.Places.{map_home, home_below, places_from, cleared, places-start, places-more, places-all}
-use borrow.Author.Rules.{rules}
+use Prim.Native.Nat.{◌≤◌}
+use lib.ListN.{length, drop}
+use Rattle.patch_maps.specs.Places.{places_from}
 use Rattle.patch_maps.proofs.maps_by_section.Given as goal
 
 abbrev pub invariant-loop-k : goal.invariant-loop-k

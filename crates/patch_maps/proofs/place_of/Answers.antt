@@ -4,7 +4,6 @@ use Prim.Native.Nat.{ℕ, ◌<◌}
 use native.Mathlib.Omega.{arith}
 use lib.ListN.{get_or}
 use Rattle.patch_maps.specs.Found.{owner_place, no-section, some-section, owner-below}
-use borrow.Author.Rules.{rules}
 use Rattle.patch_maps.proofs.place_of.Goals as goal
 use Rattle.patch_maps.proofs.place_of.Goals.{After-size}
 
