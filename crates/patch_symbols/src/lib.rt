@@ -1,5 +1,6 @@
 // The symbols that bear a name: none, one or several, by a binary search among all symbols sorted by the lengths of their names, then by their bytes.
 #![tactic(auto)]
+
 ghost use Rattle.std.specs.Prelude.{◌≡◌, ◌^◌, ◌<◌, ◌≤◌, length};
 ghost use Rattle.model.specs.Bytes.{same, before};
 ghost use Rattle.orders.specs.Compare.{ordering};

@@ -1,10 +1,8 @@
 -- `patch_symbols::bearer_of` meets its contract: those that bear the name stand together from the lower bound on.
 use mathlib.Core.Path.{sym, ◌∙◌}
 use native.Mathlib.Omega.{arith}
-use borrow.Author.Tests.{not-true, not-false}
 use Rattle.patch_symbols.specs.Long.{too_long}
 use Rattle.patch_symbols.specs.Search.{length_and_name, length_first, nobody-bears, one-bears, several-bear, stands-there}
-use borrow.Author.Rules.{rules}
 use Rattle.patch_symbols.proofs.bearer_of.Goals as goal
 
 pub returns-then-word-gt65535 : goal.returns-then-word-gt65535

@@ -5,7 +5,6 @@ use native.Mathlib.Omega.{arith}
 use borrow.Author.Tests.{lt-ltb, le-ltb}
 use lib.Dec.{ltb}
 use lib.ListN.{length}
-use borrow.Author.Rules.{rules}
 use Rattle.patch_symbols.proofs.bears_at.Goals as goal
 
 pub returns-then-at-symbols : goal.returns-then-at-symbols

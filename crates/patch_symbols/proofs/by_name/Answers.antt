@@ -2,7 +2,6 @@
 use mathlib.Core.Path.{ap, ◌∙◌}
 use Rattle.catalogue_laws.specs.Numbers.{up_to}
 use Rattle.patch_symbols.specs.Search.{name-order}
-use borrow.Author.Rules.{rules}
 use Rattle.patch_symbols.proofs.by_name.Goals as goal
 
 pub returns : goal.returns

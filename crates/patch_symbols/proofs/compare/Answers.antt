@@ -4,7 +4,6 @@ use Prim.Native.Nat.{ℕ}
 use native.Mathlib.Omega.{arith}
 use Rattle.model.specs.declared.Extent.{Extent}
 use Rattle.orders.specs.Compare.{ordering-below, ordering-above, ordering-same}
-use borrow.Author.Rules.{rules}
 use Rattle.patch_symbols.proofs.compare.Goals as goal
 
 abbrev bytes : Extent → ℕ

@@ -1,7 +1,6 @@
 -- `patch_symbols::is_before` meets its contract: `less-before` reads the answer of `compare` as a test.
 use mathlib.Core.Path.{sym, ap, ◌∙◌}
 use Rattle.patch_symbols.specs.Search.{is_less, less-before}
-use borrow.Author.Rules.{rules}
 use Rattle.patch_symbols.proofs.is_before.Goals as goal
 
 pub returns-in-Less : goal.returns-in-Less

@@ -1,7 +1,6 @@
 -- `patch_symbols::is_same` meets its contract: `equal-same` reads the answer of `compare` as a test.
 use mathlib.Core.Path.{sym, ap, ◌∙◌}
 use Rattle.patch_symbols.specs.Search.{is_equal, equal-same}
-use borrow.Author.Rules.{rules}
 use Rattle.patch_symbols.proofs.is_same.Goals as goal
 
 pub returns-in-Less : goal.returns-in-Less

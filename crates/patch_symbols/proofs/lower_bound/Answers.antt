@@ -1,13 +1,10 @@
 -- `patch_symbols::lower_bound` meets its contract: in front of `low` each name is before the word, and from `high` on none is; each turn's name decides for those on its side.
-use mathlib.Core.Path.{◌≡◌, sym, ◌∙◌}
-use mathlib.Core.Bool.{true, false}
-use Prim.Native.Nat.{ℕ, ◌+◌, ◌-◌, ◌/◌, ◌<◌, ◌≤◌}
+use mathlib.Core.Path.{sym, ◌∙◌}
+use Prim.Native.Nat.{◌+◌, ◌-◌, ◌/◌, ◌<◌}
 use native.Mathlib.Nat.{not-suc-le-zero}
 use native.Mathlib.Omega.{arith}
 use lib.ListN.{length}
-use Rattle.model.specs.Bytes.{before}
-use Rattle.patch_symbols.specs.Search.{length_and_name, length_first, key_at, names-below, names-above}
-use borrow.Author.Rules.{rules}
+use Rattle.patch_symbols.specs.Search.{names-below, names-above}
 use Rattle.patch_symbols.proofs.lower_bound.Goals as goal
 
 pub loop-low-init : goal.loop-low-init

@@ -1,12 +1,9 @@
-use mathlib.Core.Path.{◌≡◌, sym, ◌∙◌}
+use mathlib.Core.Path.{◌≡◌}
 use mathlib.Core.Bool.{true, false}
-use Prim.Native.Nat.{ℕ, ◌+◌, ◌-◌, ◌/◌, ◌<◌, ◌≤◌}
-use native.Mathlib.Nat.{not-suc-le-zero}
-use native.Mathlib.Omega.{arith}
+use Prim.Native.Nat.{ℕ, ◌-◌, ◌<◌, ◌≤◌}
 use lib.ListN.{length}
 use Rattle.model.specs.Bytes.{before}
-use Rattle.patch_symbols.specs.Search.{length_and_name, length_first, key_at, names-below, names-above}
-use borrow.Author.Rules.{rules}
+use Rattle.patch_symbols.specs.Search.{length_and_name, length_first, key_at}
 use Rattle.patch_symbols.proofs.lower_bound.Given as goal
 
 abbrev pub invariant-loop-low : goal.invariant-loop-low
