@@ -21,7 +21,7 @@ use Rattle.object_view.specs.declared.View.{View}
 use Rattle.records.specs.View.{gap_of, symbol_at}
 use Rattle.object.specs.View.{section_from, symbol_from}
 use Rattle.catalogue_numbers.specs.Function.{section_of_function, start_of, function-is}
-use Rattle.catalogue_numbers.specs.Numbers.{function_by_number as functionBy}
+use Rattle.catalogue_numbers.specs.Numbers.{function_by_number as function_by}
 use Rattle.rows_functions.specs.declared.Rows.{Rows}
 use Rattle.rows_functions.specs.Rows.{code_length, row_made, made_of, rows_made, made_row}
 use Rattle.rows_functions.specs.Stored.{rows-past}
@@ -42,7 +42,7 @@ each-cons p x xs = length-append (p x) (each p xs)
 module _ (d t : List ℕ) (v : View) where
   -- the function of a symbol's number
   abbrev pub function_of_number : ℕ → Function
-  function_of_number = functionBy d t v
+  function_of_number = function_by d t v
 
   -- n rows are to be stored, whose names and code begin at a and c
   abbrev pub rows_from : ℕ → ℕ → ℕ → Rows
