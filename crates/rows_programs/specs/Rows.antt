@@ -8,7 +8,7 @@ use Rattle.model.specs.declared.SectionRecord.{SectionRecord}
 use Rattle.model.specs.declared.SymbolRecord.{SymbolRecord}
 use Rattle.model.specs.Bytes.{each}
 use Rattle.model.specs.Catalogue.{Program}
-use Rattle.model.specs.Contents.{program_at as programOfSymbol}
+use Rattle.model.specs.Contents.{program_at as program_of_symbol}
 use Rattle.model.specs.Lent.{placed, joined, nothing, program_name, program_row}
 use Rattle.model.specs.ProgramNumbers.{variant_of}
 use Rattle.stream.specs.Stream.{length-bytes}
@@ -55,7 +55,7 @@ module _ (d t : List ℕ) (v : View) where
       → w ≡ variant_shown (name_in d v s.name)
       → r ≡ record { length = y.name.length; number = w.number; first = w.first; second = w.second; section = s.index.0; address = y.address }
       → r ≡ program_row_of (program_by_number d t v j)
-  unfolding program_row_of programOfSymbol section_from symbol_from
+  unfolding program_row_of program_of_symbol section_from symbol_from
   row_is j y s w r ey es ew er = er ∙ rw (ew, es, ey, length-bytes)
 
   -- the row of the next number
