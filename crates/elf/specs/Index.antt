@@ -12,7 +12,8 @@ use Rattle.elf_layout.specs.Layout.{elf_view, layout_of}
 use Rattle.elf_names.specs.Lengths.{string_lengths}
 use Rattle.elf_object.specs.Inside.{TablesRuled, section-strings, symbol-strings}
 use Rattle.elf_object.specs.Indexed.{section_name_offset, symbol_name_offset, file_places, Indexed}
-use Rattle.elf_object.specs.Parts.{section_name_length, symbol_name_length, first_places, place_counts, indexed-parts}
+use Rattle.elf_object.specs.Parts.{section_name_length, symbol_name_length, first_places, place_counts}
+use Rattle.elf_object.proofs.Parts.{indexed-parts}
 
 module _ (f : List ℕ) where
   unfoldable pub section_part : List ℕ

@@ -17,7 +17,7 @@ use Rattle.elf_layout.specs.declared.FileCheck.{FileCheck}
 use Rattle.elf_layout.specs.Layout.{elf_view, layout_of, file_refusal, checked_file}
 use Rattle.elf_object.specs.Inside.{tables-ruled}
 use Rattle.elf_object.specs.Indexed.{Indexed}
-use Rattle.elf_object.specs.Object.{readable-elf, object-elf}
+use Rattle.elf_object.proofs.Object.{readable-elf, object-elf}
 use Rattle.elf.specs.Names.{symbols_ok}
 use Rattle.elf.specs.Index.{section_part, symbol_part, relocation_part, length-sections, length_symbols, indexed}
 use Rattle.elf.specs.Opened.{layout_length, opened_file, FileOpened, Passes, refused-then, opened-names, names-rules, opened-btf, opened_view}
