@@ -1,4 +1,4 @@
--- What an ELF file's view is, where its index holds what it should.
+-- What an ELF file's view is, and what its index should hold. What follows where the index holds it is shown in proofs/.
 pub mod Found
 pub mod Inside
 pub mod Ranges
@@ -8,5 +8,4 @@ pub mod Placed
 pub mod Relocated
 pub mod Sections
 pub mod Symbols
-pub mod Object
 pub mod Parts

@@ -1,11 +1,11 @@
--- The relocations of a section by their places, and by their records.
+-- The relocations of a section by their places, and a relocation by its record.
 use Rattle.std.proofs.Math.Path.{◌≡◌, refl, sym, ap, ap₂}
 use Rattle.std.proofs.Common.{◌∙◌}
 use Rattle.std.specs.Prelude.{Bool, false, get_or}
 use Rattle.std.proofs.Math.Bool.{true, cond}
 use mathlib.Core.List.{List, [], ◌∷◌, ◌++◌, map, map-append}
 use Rattle.std.proofs.Math.Option.{Option, none}
-use Prim.Native.Nat.{ℕ, suc, ◌+◌, ◌*◌, ◌/◌, ◌%◌, ◌<◌, ◌≤◌}
+use Prim.Native.Nat.{ℕ, ◌+◌, ◌*◌, ◌/◌, ◌%◌, ◌≤◌}
 use native.Mathlib.Omega.{arith}
 use Rattle.std.proofs.Math.Dec.{eqb}
 use Rattle.std.proofs.Math.ListN.{length, get_or-map}
@@ -16,21 +16,20 @@ use Rattle.model.specs.declared.Endianness.{Endianness}
 use Rattle.model.specs.declared.SymbolIndex.{SymbolIndex}
 use Rattle.model.specs.Bytes.{keep, each, part}
 use Rattle.model.specs.LicenceVersion.{number}
-use Rattle.model.specs.Deposit.{all, unless_none, reloc_of}
+use Rattle.model.specs.Deposit.{unless_none, reloc_of}
 use Rattle.model.specs.Object.{Reloc}
-use Rattle.model.specs.Elf.{field, Header, header_of, is_type, entry_size, entry_count, File, file_of, file_target, reloc_size, file_reloc, table_relocs, file_relocs}
-use Rattle.model.specs.ElfRefusals.{header_ok}
+use Rattle.model.specs.Elf.{field, Header, is_type, entry_size, entry_count, File, file_of, file_target, reloc_size, file_reloc, table_relocs, file_relocs}
 use Rattle.records.specs.View.{relocation-elf}
 use Rattle.object.specs.View.{reloc_in}
 use Rattle.elf_laws.specs.Places.{part-part, relocs-tab}
-use Rattle.elf_header.specs.Headers.{header_in, headers_in, sections-by-number}
-use Rattle.elf_header.specs.Used.{table_places, places_for}
-use Rattle.elf_layout.specs.Layout.{table_number, elf_view}
-use Rattle.elf_records.specs.Elf.{field_at, index_at, symbol_or_none, width_of, place_of, relocation_offset_at, relocation_symbol_at, elf_relocation}
-use Rattle.elf_object.specs.Inside.{TablesRuled, tables-in-use}
-use Rattle.elf_object.specs.Placed.{row_ends, get_d_rows, placed-inside, relocations-placed}
+use Rattle.elf_header.specs.Headers.{headers_in}
+use Rattle.elf_header.specs.Used.{table_places}
+use Rattle.elf_layout.specs.Layout.{elf_view}
+use Rattle.elf_records.specs.Elf.{field_at, symbol_or_none, width_of, place_of, relocation_offset_at, relocation_symbol_at, elf_relocation}
+use Rattle.elf_object.specs.Inside.{TablesRuled}
+use Rattle.elf_object.specs.Placed.{relocations-placed}
 use Rattle.elf_object.specs.Ranges.{field_in, field-first}
-use Rattle.elf_object.specs.Indexed.{file_places, Indexed}
+use Rattle.elf_object.specs.Indexed.{file_places}
 
 -- the relocation at a place
 abbrev pub reloc_placed : List ℕ → Endianness → ℕ → Reloc
@@ -92,7 +91,7 @@ target_is y false = refl
 
 module _ (f t : List ℕ) where
   -- the record of a relocation whose place the index holds
-  reloc-read : (m q : ℕ) → place_of f t (elf_view f) m ≡ q → q + 16 ≤ length f → reloc_in f t (elf_view f) m ≡ reloc_placed f (elf_view f).order q
+  pub reloc-read : (m q : ℕ) → place_of f t (elf_view f) m ≡ q → q + 16 ≤ length f → reloc_in f t (elf_view f) m ≡ reloc_placed f (elf_view f).order q
   unfolding reloc_in reloc_of elf_relocation relocation_offset_at relocation_symbol_at symbol_or_none width_of file_reloc elf_view
   reloc-read m q e fits =
       let o : Endianness = (elf_view f).order in
@@ -108,36 +107,3 @@ module _ (f t : List ℕ) where
         size = reloc_size (info k % 4294967296);
       })
       ∙ (λ k. record { offset = field o (part f q 16) 0 8; symbol = target k; size = reloc_size (field o (part f q 16) 8 8 % 4294967296) })
-
-  module _ (r : TablesRuled f (file_of f)) (x : Indexed f t) (i : ℕ) (l : i < (headers_in f).sections) where
-    -- those of section number i
-    reloc-of-section : (k : ℕ) → k < length (file_places f i)
-        → reloc_in f t (elf_view f) (length (rows (file_places f) i) + k) ≡ reloc_placed f (elf_view f).order (get_or (file_places f i) k 0)
-    unfolding elf_view
-    reloc-of-section k h =
-        let m : ℕ = length (rows (file_places f) i) + k in
-        let below : m < (elf_view f).relocations = rw (view-relocations f r) (omega (arith, row_ends (file_places f) i (headers_in f).sections l)) in
-        let ok : all (header_ok (length f)) (tab (header_in f (headers_in f)) (headers_in f).sections) ≡ true =
-        ap (all (header_ok (length f))) (sym (sections-by-number f)) ∙ r.sections
-        in
-        reloc-read m (get_or (file_places f i) k 0) (x.places m below ∙ get_d_rows (file_places f) i (headers_in f).sections k 0 l h)
-        (placed-inside f (headers_in f) (table_number (file_of f)) i k ok h)
-
-    own-places : each table_places (keep (λ t. eqb t.info (header_in f (headers_in f) i).index) (file_of f).relocations) ≡ file_places f i
-    unfolding places_for header_of
-    own-places =
-        let e : 1 + i ≡ suc i = omega arith in
-        ap (λ (j : ℕ). each table_places (keep (λ t. eqb t.info j) (file_of f).relocations)) e
-        ∙ ap (λ (us : List Header). each table_places (keep (λ t. eqb t.info (suc i)) us)) (tables-in-use f)
-
-    -- its relocations end before all do
-    pub relocs-end : index_at t ((headers_in f).sections + (elf_view f).symbols + i) + index_at t (2 * (headers_in f).sections + (elf_view f).symbols + i) ≤ (elf_view f).relocations
-    relocs-end = rw (x.firsts i l, x.counts i l, view-relocations f r) (row_ends (file_places f) i (headers_in f).sections l)
-
-    pub section-relocs : tab (λ k. reloc_in f t (elf_view f) (index_at t ((headers_in f).sections + (elf_view f).symbols + i) + k)) (index_at t (2 * (headers_in f).sections + (elf_view f).symbols + i))
-        ≡ file_relocs f (file_of f) (header_in f (headers_in f) i)
-    unfolding elf_view
-    section-relocs =
-        rw (x.firsts i l, x.counts i l)
-        (tab-ext _ (λ k. reloc_placed f (file_of f).order (get_or (file_places f i) k 0)) (length (file_places f i)) reloc-of-section
-        ∙ sym (relocs-placed f (file_of f) (header_in f (headers_in f) i) (file_places f i) own-places))

@@ -21,9 +21,11 @@ use Rattle.elf_records.specs.Elf.{data_range, section_index_at, elf_section, elf
 use Rattle.elf_object.specs.Inside.{TablesRuled, rules-tables, view-sections, section_strings, symbol_strings, sections-few, symbols-few, relocations-few, header-passes}
 use Rattle.elf_object.specs.Ranges.{NameRead, DataRead, header-size-small}
 use Rattle.elf_object.specs.Indexed.{symbol_name_offset, Indexed}
-use Rattle.elf_object.specs.Relocated.{relocs-end}
-use Rattle.elf_object.specs.Sections.{header_of_file, HeaderRead, header_read, section-name-read, section-data-read, section-name-at, section-bytes-at, section-is}
-use Rattle.elf_object.specs.Symbols.{symbols-by-number, symbol-name-read, symbol-name-at, symbol-is}
+use Rattle.elf_object.proofs.Relocated.{relocs-end}
+use Rattle.elf_object.specs.Sections.{header_of_file, HeaderRead, header_read, section-name-read, section-data-read}
+use Rattle.elf_object.proofs.Sections.{section-name-at, section-bytes-at, section-is}
+use Rattle.elf_object.specs.Symbols.{symbols-by-number, symbol-name-read}
+use Rattle.elf_object.proofs.Symbols.{symbol-name-at, symbol-is}
 
 module _ (f t : List ℕ) (ok : rules_ok f (file_of f) ≡ true) (x : Indexed f t) where
   r : TablesRuled f (file_of f)
