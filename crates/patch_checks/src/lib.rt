@@ -1,5 +1,6 @@
 // A patch list as it is lent, and what refuses it: numbers 18 to 23.
 #![tactic(auto)]
+
 ghost use Rattle.std.specs.Prelude.{◌≡◌, not, ◌^◌, ◌<◌, eqb, get_or};
 ghost use Rattle.model.specs.Bytes.{inside, or_else};
 ghost use Rattle.model.specs.Refusals.{no_section, no_symbol, of_entry, place_refusal, entry_refusal, patch_refusal};

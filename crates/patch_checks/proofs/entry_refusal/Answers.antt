@@ -3,7 +3,7 @@ use mathlib.Core.Path.{◌≡◌, sym, ap, ◌∙◌}
 use mathlib.Core.Bool.{true, false}
 use Prim.Native.Nat.{◌+◌, ◌-◌}
 use native.Mathlib.Omega.{arith}
-use borrow.Author.Tests.{not-true, not-false, eq-eqb, ne_eqb}
+use borrow.Author.Tests.{eq-eqb, ne_eqb}
 use lib.Dec.{eqb}
 use lib.ListN.{length}
 use Rattle.lists.specs.Part.{length_part}
@@ -13,7 +13,6 @@ use Rattle.object.specs.Checked.{checked_of}
 use Rattle.object.specs.View.{object_in}
 use Rattle.patch_checks.specs.Entries.{patch_by, lent-ranges, bytes-length}
 use Rattle.patch_checks.specs.Checks.{maps_of_numbers, entry_fault, not-inside, other-mark, by-bearer}
-use borrow.Author.Rules.{rules}
 use Rattle.patch_checks.proofs.entry_refusal.Goals as goal
 use Rattle.patch_checks.proofs.entry_refusal.Goals.{After-bearer_of, Else-not-is_lent}
 
@@ -56,10 +55,11 @@ told : (c : After-bearer_of)
 unfolding patch_by
 told c =
     let a = c.args in
+    let lent : (patch_by a.patches.now a.x).inside ≡ true = sym c.is_lent.ensures ∙ c.if-not-is_lent.false in
     let e : a.x.name.at + a.x.name.length - a.x.name.at ≡ a.x.name.length = omega arith in
-    by-bearer a.d.now a.t.now a.v (maps_of_numbers a.d.now a.t.now a.v a.maps.now a.n) a.e (patch_by a.patches.now a.x) (lent c) (omega arith)
+    by-bearer a.d.now a.t.now a.v (maps_of_numbers a.d.now a.t.now a.v a.maps.now a.n) a.e (patch_by a.patches.now a.x) lent (omega arith)
     c.bearer_of.result (c.bearer_of.ensures ∙ rw e)
-    ∙ rw (bytes-length a.patches.now a.x (lent c))
+    ∙ rw (bytes-length a.patches.now a.x lent)
 
 pub returns-then-x-eq1 : goal.returns-then-x-eq1
 returns-then-x-eq1 c =

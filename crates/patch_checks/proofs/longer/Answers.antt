@@ -1,7 +1,6 @@
 -- `patch_checks::longer` meets its contract: by the tests that led there.
 use borrow.Author.Tests.{lt-ltb, le-ltb}
 use Rattle.patch_checks.specs.Entries.{longer}
-use borrow.Author.Rules.{rules}
 use Rattle.patch_checks.proofs.longer.Goals as goal
 
 pub returns-then-n-gt65535 : goal.returns-then-n-gt65535

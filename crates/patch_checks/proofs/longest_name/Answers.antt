@@ -1,11 +1,10 @@
 -- `patch_checks::longest_name` meets its contract: entry by entry.
 use mathlib.Core.Path.{◌≡◌, refl, ap, ap₂, ◌∙◌}
-use Prim.Native.Nat.{ℕ, ◌-◌, ◌≤◌}
+use Prim.Native.Nat.{ℕ}
 use native.Mathlib.Numerals.{add-one}
 use native.Mathlib.Omega.{arith}
 use Rattle.patch_checks.specs.declared.Entry.{Entry}
 use Rattle.patch_checks.specs.Entries.{entry_count, longer, longest}
-use borrow.Author.Rules.{rules}
 use Rattle.patch_checks.proofs.longest_name.Goals as goal
 
 pub loop-e-init : goal.loop-e-init

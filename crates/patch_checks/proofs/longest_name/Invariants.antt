@@ -1,10 +1,6 @@
-use mathlib.Core.Path.{◌≡◌, refl, ap, ap₂, ◌∙◌}
-use Prim.Native.Nat.{ℕ, ◌-◌, ◌≤◌}
-use native.Mathlib.Numerals.{add-one}
-use native.Mathlib.Omega.{arith}
-use Rattle.patch_checks.specs.declared.Entry.{Entry}
-use Rattle.patch_checks.specs.Entries.{entry_count, longer, longest}
-use borrow.Author.Rules.{rules}
+use mathlib.Core.Path.{◌≡◌}
+use Prim.Native.Nat.{◌-◌, ◌≤◌}
+use Rattle.patch_checks.specs.Entries.{entry_count, longest}
 use Rattle.patch_checks.proofs.longest_name.Given as goal
 
 abbrev pub invariant-loop-e : goal.invariant-loop-e

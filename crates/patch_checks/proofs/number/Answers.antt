@@ -2,7 +2,6 @@
 use mathlib.Core.Path.{sym}
 use native.Mathlib.Omega.{arith}
 use lib.ListN.{get_or-eq_default}
-use borrow.Author.Rules.{rules}
 use Rattle.patch_checks.proofs.number.Goals as goal
 
 pub returns-else-i-entries : goal.returns-else-i-entries

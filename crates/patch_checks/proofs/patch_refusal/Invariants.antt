@@ -1,13 +1,7 @@
-use mathlib.Core.Path.{◌≡◌, refl, sym, ap, ◌∙◌}
-use Prim.Native.Nat.{◌+◌, ◌-◌, ◌^◌, ◌<◌, ◌≤◌}
-use native.Mathlib.Omega.{arith}
-use Rattle.model.specs.Refusals.{entry_refusal}
-use Rattle.object.specs.Checked.{checked_of}
+use mathlib.Core.Path.{◌≡◌}
+use Prim.Native.Nat.{◌-◌, ◌≤◌}
 use Rattle.object.specs.View.{object_in}
-use Rattle.patch_checks.specs.declared.Entry.{Entry}
-use Rattle.patch_checks.specs.Entries.{patch_by, patch_at}
-use Rattle.patch_checks.specs.Checks.{maps_of_numbers, rest_at, rest_all, rest-refused, rest-next, rest_end}
-use borrow.Author.Rules.{rules}
+use Rattle.patch_checks.specs.Checks.{maps_of_numbers, rest_at}
 use Rattle.patch_checks.proofs.patch_refusal.Given as goal
 
 abbrev pub invariant-loop-e : goal.invariant-loop-e

@@ -6,7 +6,6 @@ use Rattle.model.specs.Refusals.{of_entry, place_refusal}
 use Rattle.object.specs.Checked.{checked_of}
 use Rattle.object.specs.View.{symbol_from}
 use Rattle.patch_checks.specs.Checks.{maps_of_numbers, place-room, refused-22, place-below, by-own}
-use borrow.Author.Rules.{rules}
 use Rattle.patch_checks.proofs.place_refusal.Goals as goal
 use Rattle.patch_checks.proofs.place_refusal.Goals.{After-passes, Else-place-eq0}
 

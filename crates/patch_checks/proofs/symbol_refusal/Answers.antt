@@ -4,7 +4,6 @@ use mathlib.Core.Bool.{true, false}
 use borrow.Author.Tests.{eq-eqb, ne_eqb}
 use lib.Dec.{eqb}
 use Rattle.object.specs.View.{symbol_from, symbol_in}
-use borrow.Author.Rules.{rules}
 use Rattle.patch_checks.proofs.symbol_refusal.Goals as goal
 
 pub returns-then-length-y : goal.returns-then-length-y
