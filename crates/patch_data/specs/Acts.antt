@@ -18,7 +18,6 @@ use Rattle.model.specs.declared.SymbolRecord.{SymbolRecord}
 use Rattle.model.specs.Bytes.{each, or_else}
 use Rattle.model.specs.Catalogue.{Map}
 use Rattle.model.specs.Contents.{legacy_map}
-use Rattle.model.specs.Deposit.{byte_order}
 use Rattle.model.specs.Lent.{map_name, map_own, map_row, placed, joined}
 use Rattle.model.specs.Object.{Symbol, Patch}
 use Rattle.model.specs.Patching.{patch_map}

@@ -9,7 +9,6 @@ use Rattle.object_view.specs.declared.View.{View}
 use Rattle.model.specs.declared.EbpfSectionKind.{EbpfSectionKind as Kind}
 use Rattle.model.specs.Bytes.{before, keep, ◌∈◌}
 use Rattle.model.specs.Contents.{is_data}
-use Rattle.model.specs.Deposit.{byte_order}
 use Rattle.model.specs.SectionKind.{is_kind, kind_of}
 use Rattle.model.specs.Symbols.{lies_in}
 use Rattle.orders.specs.Keys.{before-irrefl}

@@ -5,7 +5,6 @@ use Prim.Native.Nat.{ℕ, ◌+◌, ◌-◌}
 use native.Mathlib.Omega.{arith}
 use lib.ListN.{take, drop}
 use lib.Seq.{drop-drop}
-use borrow.Author.Rules.{rules}
 use Rattle.patch_data.proofs.patch_map_data.Goals as goal
 
 pub returns : goal.returns

@@ -1,6 +1,6 @@
 -- `patch_data::patch_own` meets its contract: at entry e the bytes are what the maps own once e entries have acted.
 use mathlib.Core.Path.{◌≡◌, refl, sym, ap, ◌∙◌}
-use Prim.Native.Nat.{◌+◌, ◌-◌, ◌≤◌}
+use Prim.Native.Nat.{◌+◌}
 use native.Mathlib.Omega.{arith}
 use lib.ListN.{length}
 use Rattle.object.specs.View.{object_in}
@@ -8,8 +8,7 @@ use Rattle.catalogue_numbers.specs.Numbers.{map_numbers}
 use Rattle.patch_checks.specs.Entries.{entry_count}
 use Rattle.patch_checks.specs.Checks.{maps_of_numbers, rest-none}
 use Rattle.patch_data.specs.Acts.{after-length}
-use Rattle.patch_data.specs.Ready.{map_count, own_at, checks_at, starts, ends, checks-all}
-use borrow.Author.Rules.{rules}
+use Rattle.patch_data.specs.Ready.{map_count, own_at, starts, ends, checks-all}
 use Rattle.patch_data.proofs.patch_own.Goals as goal
 
 pub loop-e-init : goal.loop-e-init

@@ -3,7 +3,6 @@ use mathlib.Core.Path.{◌∙◌}
 use Prim.Native.Nat.{◌+◌, ◌-◌, ◌*◌, ◌≤◌}
 use native.Mathlib.Omega.{arith}
 use lib.ListN.{length, get_or}
-use borrow.Author.Rules.{rules}
 use Rattle.patch_data.proofs.patch_symbol.Goals as goal
 
 pub overflow_sub-at : goal.overflow_sub-at
@@ -13,7 +12,7 @@ pub overflow_add-at-2 : goal.overflow_add-at-2
 overflow_add-at-2 c =
     let a = c.args in
     let r : get_or a.rows.now (27 * (c.place_of-place.result - 1) + 5) 0 - a.own + a.y.address + a.len ≤ length a.bytes.now = rw c.place_of-place.ensures c.requires.3.room in
-    omega (arith, c.well-formed.1.1.1.1.1.1.1.1.1.1.0)
+    omega arith
 
 pub write-requires : goal.write-requires
 write-requires c = (rw c.place_of-place.ensures c.requires.3.room, c.requires.2)

@@ -7,7 +7,6 @@ use lib.ListN.{take, drop}
 use Rattle.lists.specs.Part.{length_part}
 use Rattle.model.specs.Bytes.{part}
 use Rattle.patch_data.specs.Region.{stored}
-use borrow.Author.Rules.{rules}
 use Rattle.patch_data.proofs.write.Goals as goal
 
 pub returns : goal.returns
