@@ -1,11 +1,14 @@
 // Reads names, one a line, and writes each with the number of its variant and its two values, or with 8 where it is unknown.
 #![tactic(auto)]
-ghost use Rattle.std.specs.Prelude.{◌≤◌, ◌<◌, length};
+
+ghost use Rattle.std.specs.Prelude.{◌≤◌, length, IfOk};
 
 use model::{
     CgroupSkbAttachType, CgroupSockAddrAttachType, CgroupSockAttachType, CgroupSockoptAttachType,
     ParsedProgramSection, ProgramSection, SkReuseportAttachType, SkSkbKind, XdpAttachType,
 };
+use std::io;
+use std::io::Read;
 
 fn bit(b: bool) -> u8 {
     if b { 1 } else { 0 }
@@ -75,78 +78,90 @@ fn cgroup_sock_number(a: CgroupSockAttachType) -> u8 {
 }
 
 // A blank, and the number.
-fn put(x: u8) {
-    let digits = [b' ', b'0' + x / 100, b'0' + x / 10 % 10, b'0' + x % 10];
-    io::write_all(libc::STDOUT_FILENO, &digits[0..1]);
-    if x < 10 {
-        io::write_all(libc::STDOUT_FILENO, &digits[3..4]);
-    } else {
-        io::write_all(libc::STDOUT_FILENO, &digits[2..4]);
-    }
+fn put(rt: &impl Print, x: u8) -> io::Result<()> {
+    print!(rt; " {x}")
 }
 
-fn put3(number: u8, first: u8, second: u8) {
-    put(number);
-    put(first);
-    put(second);
+fn put3(rt: &impl Print, number: u8, first: u8, second: u8) -> io::Result<()> {
+    put(rt, number)?;
+    put(rt, first)?;
+    put(rt, second)
 }
 
-fn put_section(p: ProgramSection) {
+fn put_section(rt: &impl Print, p: ProgramSection) -> io::Result<()> {
     match p {
-        ProgramSection::KRetProbe => put3(0, 0, 0),
-        ProgramSection::KProbe => put3(1, 0, 0),
-        ProgramSection::UProbe { sleepable, multi } => put3(2, bit(sleepable), bit(multi)),
-        ProgramSection::URetProbe { sleepable, multi } => put3(3, bit(sleepable), bit(multi)),
-        ProgramSection::TracePoint => put3(4, 0, 0),
-        ProgramSection::SocketFilter => put3(5, 0, 0),
-        ProgramSection::Xdp { frags, attach_type } => put3(6, bit(frags), xdp_number(attach_type)),
-        ProgramSection::SkMsg => put3(7, 0, 0),
-        ProgramSection::SkSkbStream { kind } => put3(8, sk_skb_number(kind), 0),
-        ProgramSection::SockOps => put3(9, 0, 0),
-        ProgramSection::SchedClassifier => put3(10, 0, 0),
-        ProgramSection::CgroupSkb { attach_type } => put3(11, cgroup_skb_number(attach_type), 0),
+        ProgramSection::KRetProbe => put3(rt, 0, 0, 0),
+        ProgramSection::KProbe => put3(rt, 1, 0, 0),
+        ProgramSection::UProbe { sleepable, multi } => put3(rt, 2, bit(sleepable), bit(multi)),
+        ProgramSection::URetProbe { sleepable, multi } => put3(rt, 3, bit(sleepable), bit(multi)),
+        ProgramSection::TracePoint => put3(rt, 4, 0, 0),
+        ProgramSection::SocketFilter => put3(rt, 5, 0, 0),
+        ProgramSection::Xdp { frags, attach_type } => put3(
+            rt,
+            6,
+            bit(frags),
+            xdp_number(attach_type),
+        ),
+        ProgramSection::SkMsg => put3(rt, 7, 0, 0),
+        ProgramSection::SkSkbStream { kind } => put3(rt, 8, sk_skb_number(kind), 0),
+        ProgramSection::SockOps => put3(rt, 9, 0, 0),
+        ProgramSection::SchedClassifier => put3(rt, 10, 0, 0),
+        ProgramSection::CgroupSkb { attach_type } => put3(
+            rt,
+            11,
+            cgroup_skb_number(attach_type),
+            0,
+        ),
         ProgramSection::CgroupSockAddr { attach_type } => put3(
+            rt,
             12,
             cgroup_sock_addr_number(attach_type),
             0,
         ),
-        ProgramSection::CgroupSysctl => put3(13, 0, 0),
+        ProgramSection::CgroupSysctl => put3(rt, 13, 0, 0),
         ProgramSection::CgroupSockopt { attach_type } => put3(
+            rt,
             14,
             cgroup_sockopt_number(attach_type),
             0,
         ),
-        ProgramSection::LircMode2 => put3(15, 0, 0),
-        ProgramSection::PerfEvent => put3(16, 0, 0),
-        ProgramSection::RawTracePoint => put3(17, 0, 0),
-        ProgramSection::Lsm { sleepable } => put3(18, bit(sleepable), 0),
-        ProgramSection::LsmCgroup => put3(19, 0, 0),
-        ProgramSection::BtfTracePoint => put3(20, 0, 0),
-        ProgramSection::FEntry { sleepable } => put3(21, bit(sleepable), 0),
-        ProgramSection::FExit { sleepable } => put3(22, bit(sleepable), 0),
-        ProgramSection::FlowDissector => put3(23, 0, 0),
-        ProgramSection::Extension => put3(24, 0, 0),
-        ProgramSection::SkLookup => put3(25, 0, 0),
+        ProgramSection::LircMode2 => put3(rt, 15, 0, 0),
+        ProgramSection::PerfEvent => put3(rt, 16, 0, 0),
+        ProgramSection::RawTracePoint => put3(rt, 17, 0, 0),
+        ProgramSection::Lsm { sleepable } => put3(rt, 18, bit(sleepable), 0),
+        ProgramSection::LsmCgroup => put3(rt, 19, 0, 0),
+        ProgramSection::BtfTracePoint => put3(rt, 20, 0, 0),
+        ProgramSection::FEntry { sleepable } => put3(rt, 21, bit(sleepable), 0),
+        ProgramSection::FExit { sleepable } => put3(rt, 22, bit(sleepable), 0),
+        ProgramSection::FlowDissector => put3(rt, 23, 0, 0),
+        ProgramSection::Extension => put3(rt, 24, 0, 0),
+        ProgramSection::SkLookup => put3(rt, 25, 0, 0),
         ProgramSection::SkReuseport { attach_type } => put3(
+            rt,
             26,
             sk_reuseport_number(attach_type),
             0,
         ),
-        ProgramSection::CgroupSock { attach_type } => put3(27, cgroup_sock_number(attach_type), 0),
-        ProgramSection::CgroupDevice => put3(28, 0, 0),
-        ProgramSection::Iter { sleepable } => put3(29, bit(sleepable), 0),
+        ProgramSection::CgroupSock { attach_type } => put3(
+            rt,
+            27,
+            cgroup_sock_number(attach_type),
+            0,
+        ),
+        ProgramSection::CgroupDevice => put3(rt, 28, 0, 0),
+        ProgramSection::Iter { sleepable } => put3(rt, 29, bit(sleepable), 0),
     }
 }
 
-fn put_answer(r: ParsedProgramSection) {
+fn put_answer(rt: &impl Print, r: ParsedProgramSection) -> io::Result<()> {
     match r {
-        ParsedProgramSection::Section(p) => put_section(p),
-        ParsedProgramSection::InvalidProgramSection => put(8),
+        ParsedProgramSection::Section(p) => put_section(rt, p),
+        ParsedProgramSection::InvalidProgramSection => put(rt, 8),
     }
 }
 
-fn end_line() {
-    io::write_all(libc::STDOUT_FILENO, b"\n");
+fn end_line(rt: &impl Print) -> io::Result<()> {
+    rt.write_all(b"\n")
 }
 
 // Where the line that begins at `at` ends.
@@ -164,19 +179,35 @@ fn line_end(d: &[u8], at: usize) -> usize
     e
 }
 
-fn run(d: &[u8]) {
+fn run(rt: &impl Print, d: &[u8]) -> io::Result<()> {
     let mut at: usize = 0;
     while at < d.len() {
         let e = line_end(d, at);
-        io::write_all(libc::STDOUT_FILENO, &d[at..e]);
-        put_answer(program_section::from_str(d, 0, at, e - at));
-        end_line();
+        rt.write_all(&d[at..e])?;
+        put_answer(rt, program_section::from_str(d, 0, at, e - at))?;
+        end_line(rt)?;
         at = e + 1;
     }
+    Ok(())
 }
 
-fn main() {
+// Reads until d is full or the input ends; how many bytes it put at the start of d.
+fn read_full(input: &mut impl Read, d: &mut [u8]) -> io::Result<usize>
+    ensures { IfOk result (λ n. n ≤ length d.new) }
+{
+    let mut done: usize = 0;
+    while done < d.len() {
+        let n = input.read(&mut d[done..])?;
+        if n == 0 {
+            break;
+        }
+        done += n;
+    }
+    Ok(done)
+}
+
+fn main(rt: HostRuntime) -> io::Result<()> {
     let mut d = [0u8; 65536];
-    let len = io::read_full(libc::STDIN_FILENO, &mut d);
-    run(&d[..len]);
+    let len = read_full(&mut rt.reader(), &mut d)?;
+    run(&rt, &d[..len])
 }

@@ -1,6 +1,5 @@
 use Prim.Native.Nat.{◌≤◌, ◌-◌}
 use lib.ListN.{length}
-use borrow.Author.Rules.{rules}
 use Rattle.test_program_section.proofs.line_end.Given as goal
 
 abbrev pub invariant-loop-e : goal.invariant-loop-e
