@@ -8,7 +8,7 @@ ghost use Rattle.model.specs.PatchList.{patches_of};
 ghost use Rattle.object.specs.Checked.{checked_of};
 ghost use Rattle.object.specs.View.{symbol_in, symbol_from, object_in};
 ghost use Rattle.patch_symbols.specs.Search.{Searchable};
-ghost use Rattle.patch_checks.specs.Entries.{NamesFound, entry_count, patch_entry_at, longer as longerOf, longest, patch_by};
+ghost use Rattle.patch_checks.specs.Entries.{NamesFound, entry_count, patch_entry_at, longer as longer_of, longest, patch_by};
 ghost use Rattle.patch_checks.specs.Checks.{past, maps_of_numbers, Sited};
 
 use bytes_maps::own_length;
@@ -57,7 +57,7 @@ pub fn entry_at(entries: &[u64], e: usize) -> Entry
 
 // The longer of a name so far and one of n bytes, unless it is longer than any name of a symbol.
 fn longer(so_far: u32, n: u64) -> u32
-    ensures { result ≡ longerOf so_far n }
+    ensures { result ≡ longer_of so_far n }
 {
     if n > 65535 {
         return so_far;

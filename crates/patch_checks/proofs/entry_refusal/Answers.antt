@@ -55,11 +55,11 @@ told : (c : After-bearer_of)
 unfolding patch_by
 told c =
     let a = c.args in
-    let lent : (patch_by a.patches.now a.x).inside ≡ true = sym c.is_lent.ensures ∙ c.if-not-is_lent.false in
+    let inside : (patch_by a.patches.now a.x).inside ≡ true = sym c.is_lent.ensures ∙ c.if-not-is_lent.false in
     let e : a.x.name.at + a.x.name.length - a.x.name.at ≡ a.x.name.length = omega arith in
-    by-bearer a.d.now a.t.now a.v (maps_of_numbers a.d.now a.t.now a.v a.maps.now a.n) a.e (patch_by a.patches.now a.x) lent (omega arith)
+    by-bearer a.d.now a.t.now a.v (maps_of_numbers a.d.now a.t.now a.v a.maps.now a.n) a.e (patch_by a.patches.now a.x) inside (omega arith)
     c.bearer_of.result (c.bearer_of.ensures ∙ rw e)
-    ∙ rw (bytes-length a.patches.now a.x lent)
+    ∙ rw (bytes-length a.patches.now a.x inside)
 
 pub returns-then-x-eq1 : goal.returns-then-x-eq1
 returns-then-x-eq1 c =
