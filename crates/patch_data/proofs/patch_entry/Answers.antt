@@ -16,9 +16,9 @@ use Rattle.patch_checks.specs.Checks.{maps_of_numbers, place-room, rest-none}
 use Rattle.patch_data.specs.Acts.{inside-ok, not-several, after-nobody, after-reached, after_one}
 use Rattle.patch_data.specs.Ready.{map_count, alone}
 use Rattle.patch_data.proofs.patch_entry.Goals as goal
-use Rattle.patch_data.proofs.patch_entry.Goals.{After-bearer_of, After-entry_at-x, Start}
+use Rattle.patch_data.proofs.patch_entry.Goals.{After-bearer_of, After-entry_at-x}
 
-accepted : (s : Start)
+accepted : (s : After-entry_at-x)
     → (let a = s.args in
     entry_refusal (object_in a.d.now a.t.now a.v) (maps_of_numbers a.d.now a.t.now a.v (map_numbers a.d.now a.t.now a.v) (map_count a.d.now a.t.now a.v)) (a.e + 1)
     (patch_at a.entries.now a.patches.now a.e) ≡ none)
@@ -36,8 +36,7 @@ ranges c =
     let ms = maps_of_numbers a.d.now a.t.now a.v (map_numbers a.d.now a.t.now a.v) (map_count a.d.now a.t.now a.v) in
     lent-ranges a.patches.now c.entry_at-x.result
     (ap (λ (x : Entry). (patch_by a.patches.now x).inside) c.entry_at-x.ensures
-    ∙ inside-ok a.d.now a.t.now a.v ms (a.e + 1) (patch_at a.entries.now a.patches.now a.e)
-    (rest-none (object_in a.d.now a.t.now a.v) ms a.entries.now a.patches.now a.e c.requires.1 c.requires.2).0)
+    ∙ inside-ok a.d.now a.t.now a.v ms (a.e + 1) (patch_at a.entries.now a.patches.now a.e) (accepted c))
 
 pub overflow_add-end : goal.overflow_add-end
 overflow_add-end c = omega (arith, (ranges (goal.at.overflow_add-end c).After-entry_at-x).0)
@@ -80,7 +79,7 @@ patch_symbol-requires c =
       place-room a.d.now a.t.now a.v ns n a.by.now c.requires.0.sited,
       (ranges (goal.at.patch_symbol-requires c).After-entry_at-x).1,
       rw (length_part a.patches.now x.bytes.at x.bytes.length (ranges (goal.at.patch_symbol-requires c).After-entry_at-x).1) at
-          (after-reached a.d.now a.t.now a.v a.entries.now a.patches.now ns n a.e a.by.now c.requires.0.sited a.own a.rows.now c.requires.0.placed (accepted (goal.at.patch_symbol-requires c).Start)
+          (after-reached a.d.now a.t.now a.v a.entries.now a.patches.now ns n a.e a.by.now c.requires.0.sited a.own a.rows.now c.requires.0.placed (accepted (goal.at.patch_symbol-requires c).After-entry_at-x)
           _ (sym c.in-One.is ∙ bearer (goal.at.patch_symbol-requires c).After-bearer_of) c.symbol-y.result a.bytes.now (part a.patches.now x.bytes.at x.bytes.length) c.symbol-y.ensures c.requires.3 (given (goal.at.patch_symbol-requires c).After-entry_at-x)),
     )
 
@@ -97,7 +96,7 @@ returns-in-One c =
     let n = map_count a.d.now a.t.now a.v in
     let x = c.entry_at-x.result in
     c.patch_symbol.ensures
-    ∙ after_one a.d.now a.t.now a.v a.entries.now a.patches.now ns n a.e a.by.now c.requires.0.sited a.own a.rows.now c.requires.0.placed (accepted (goal.at.returns-in-One c).Start)
+    ∙ after_one a.d.now a.t.now a.v a.entries.now a.patches.now ns n a.e a.by.now c.requires.0.sited a.own a.rows.now c.requires.0.placed (accepted (goal.at.returns-in-One c).After-entry_at-x)
     _ (sym c.in-One.is ∙ bearer (goal.at.returns-in-One c).After-bearer_of) c.symbol-y.result a.bytes.now (part a.patches.now x.bytes.at x.bytes.length) c.symbol-y.ensures c.requires.3 (given (goal.at.returns-in-One c).After-entry_at-x)
     (alone a.d.now a.t.now a.v c.requires.0.sited.readable)
 
@@ -105,4 +104,4 @@ pub returns-in-Several : goal.returns-in-Several
 returns-in-Several c =
     let a = c.args in
     let ms = maps_of_numbers a.d.now a.t.now a.v (map_numbers a.d.now a.t.now a.v) (map_count a.d.now a.t.now a.v) in
-    absurd (not-several a.d.now a.t.now a.v ms (a.e + 1) (patch_at a.entries.now a.patches.now a.e) (accepted (goal.at.returns-in-Several c).Start) (sym c.in-Several.is ∙ bearer (goal.at.returns-in-Several c).After-bearer_of))
+    absurd (not-several a.d.now a.t.now a.v ms (a.e + 1) (patch_at a.entries.now a.patches.now a.e) (accepted (goal.at.returns-in-Several c).After-entry_at-x) (sym c.in-Several.is ∙ bearer (goal.at.returns-in-Several c).After-bearer_of))
