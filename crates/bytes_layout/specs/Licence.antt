@@ -13,8 +13,10 @@ use Rattle.stream.specs.Laws.{place_mono}
 use Rattle.records.specs.View.{gap_of, section_at}
 use Rattle.object.specs.View.{object_in}
 use Rattle.parse_first.specs.declared.LicenseAt.{LicenseAt}
-use Rattle.parse_first.specs.Named.{number_named, number-below}
-use Rattle.parse_first.specs.LicenceVersion.{license_in, license_at, license_bytes, license-bytes}
+use Rattle.parse_first.specs.Named.{number_named}
+use Rattle.parse_first.specs.LicenceVersion.{license_in, license_at, license_bytes}
+use Rattle.parse_first.proofs.NamedLaws.{number-below}
+use Rattle.parse_first.proofs.LicenceVersionLaws.{license-bytes}
 use Rattle.records.specs.Readable.{Readable}
 
 abbrev pub licence_length : LicenseAt → ℕ

@@ -12,7 +12,7 @@ use Rattle.model.specs.Contents.{licence_of, catalogue_of, program_at as program
 use Rattle.model.specs.Lent.{section_name, program_name, function_name, function_code, map_name, map_own}
 use Rattle.model.specs.Refusals.{object_refusal}
 use Rattle.catalogue_laws.specs.Numbers.{each_map}
-use Rattle.catalogue_laws.specs.FunctionsMaps.{map_name_of_number as map_key_name, name-of-map}
+use Rattle.catalogue_laws.specs.FunctionsMaps.{map_name_of_number as mapKeyName, name-of-map}
 use Rattle.object.specs.View.{section_in, symbol_in, object_in}
 use Rattle.catalogue_numbers.specs.Function.{function-is}
 use Rattle.catalogue_numbers.specs.Numbers.{section_numbers, program_numbers, function_numbers, map_numbers, section_entry_at, program_by_number, function_by_number, map_at, sections-by, programs-by, functions-by, maps-by}
@@ -54,7 +54,7 @@ module _ (d t : List ℕ) (v : View) where
     pub function-code : each function_code catalogue.functions ≡ each (λ j. function_code (function_by_number d t v j)) (function_numbers d t v)
     function-code = ap (each function_code) (functions-by d t v r) ∙ each_map function_code (function_by_number d t v) (function_numbers d t v)
 
-    name-is : (n : ℕ) → map_name (map_at d t v n) ≡ map_key_name v.order (section_in d t v) v.sections (symbol_in d t v) v.symbols n
+    name-is : (n : ℕ) → map_name (map_at d t v n) ≡ mapKeyName v.order (section_in d t v) v.sections (symbol_in d t v) v.symbols n
     name-is n = name-of-map v.order (section_in d t v) v.sections (symbol_in d t v) v.symbols (map_source_of v.sections n)
 
     pub map-names : each map_name catalogue.maps ≡ each (piece_of Piece.MapName d t v) (map_numbers d t v)
