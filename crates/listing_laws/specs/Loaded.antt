@@ -19,7 +19,8 @@ use Rattle.model.specs.ReadBack.{function_read, read_back}
 use Rattle.lists.specs.Tests.{both_true}
 use Rattle.catalogue_laws.specs.Placed.{length-joined}
 use Rattle.guarantees.specs.WordsOfDemand3.{Input, outcome_on}
-use Rattle.guarantees.specs.LentBack.{Given, given_is, lent-lengths}
+use Rattle.guarantees.specs.LentBack.{Given, given_is}
+use Rattle.guarantees.proofs.LentBack.{lent-lengths}
 use Rattle.rows_numbers.specs.Flat.{length-flat}
 use Rattle.listing_laws.specs.Numbers.{Flat}
 use Rattle.listing_text.specs.Flat.{row_from, function_from, top_text, flat_text, RowsFit}

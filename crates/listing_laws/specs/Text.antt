@@ -15,7 +15,8 @@ use Rattle.model.specs.Listing.{answer_text, catalogue_text, refusal_text, too_l
 use Rattle.model.specs.ElfRefusals.{load_elf_of, file_listing_of}
 use Rattle.model.specs.ReadBack.{read_back}
 use Rattle.guarantees.specs.WordsOfDemand3.{Input, input_bytes, outcome_on}
-use Rattle.guarantees.specs.LentBack.{given_is, lent-read-back}
+use Rattle.guarantees.specs.LentBack.{given_is}
+use Rattle.guarantees.proofs.LentBack.{lent-read-back}
 use Rattle.listing_laws.specs.Numbers.{Flat}
 use Rattle.listing_text.specs.Flat.{flat_answer, AnswerFits}
 use Rattle.listing_laws.specs.Bound.{catalogue-most, refusal-most}

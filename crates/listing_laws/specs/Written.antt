@@ -1,5 +1,5 @@
 -- The text that is written is the front of a buffer.
-use Rattle.std.specs.Prelude.{◌≡◌, List, ℕ, ◌≤◌, length}
+use Rattle.std.specs.Prelude.{List, ℕ, ◌≤◌, length}
 use Rattle.std.proofs.Common.{sym, length-take-le}
 use Rattle.io.specs.Counts.{IsPrefixLen}
 
