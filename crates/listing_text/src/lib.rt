@@ -1,5 +1,6 @@
 // The listing's text, laid behind what a lent buffer has, as far as there is room.
 #![tactic(auto)]
+
 ghost use Rattle.std.specs.Prelude.{◌≡◌, ◌∷◌, ◌+◌, ◌*◌, ◌<◌, ◌≤◌, min, length, take};
 ghost use Rattle.model.specs.Bytes.{each, records, part};
 ghost use Rattle.model.specs.Listing.{decimal, variant_name, version_text, program_line, function_line, map_line, refusal_text};
@@ -104,6 +105,7 @@ fn put_part(out: &mut [u8], at: usize, b: &[u8], from: u64, n: u64) -> usize
 }
 
 // Past the last number it is the first.
+#[tactic(auto, unfolding(crate::specs::Variants::variant_row))]
 fn variant(number: u64) -> usize
     ensures { (result ≡ variant_row number) × (result < 30) }
 {

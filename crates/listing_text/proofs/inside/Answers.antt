@@ -1,7 +1,6 @@
 -- `listing_text::inside` meets its contract: the part is cut at the list's end.
 use native.Mathlib.Omega.{arith}
 use Rattle.listing_text.specs.Spans.{span_of}
-use borrow.Author.Rules.{rules}
 use Rattle.listing_text.proofs.inside.Goals as goal
 
 pub returns : goal.returns

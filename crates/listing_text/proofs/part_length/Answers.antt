@@ -1,6 +1,5 @@
 -- `listing_text::part_length` meets its contract: the part's length is that of its span.
 use Rattle.listing_text.specs.Spans.{span-length}
-use borrow.Author.Rules.{rules}
 use Rattle.listing_text.proofs.part_length.Goals as goal
 
 pub returns : goal.returns

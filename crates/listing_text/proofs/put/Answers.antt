@@ -2,7 +2,6 @@
 use lib.ListN.{length-take, length-drop}
 use native.Mathlib.Omega.{arith}
 use Rattle.listing_text.specs.Laid.{copied-laid}
-use borrow.Author.Rules.{rules}
 use Rattle.listing_text.proofs.put.Goals as goal
 
 pub slice_bounds-copy8-end-2 : goal.slice_bounds-copy8-end-2

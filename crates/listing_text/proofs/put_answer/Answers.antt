@@ -1,5 +1,4 @@
 -- `listing_text::put_answer` meets its contract: each arm is the text of its answer.
-use borrow.Author.Rules.{rules}
 use Rattle.listing_text.proofs.put_answer.Goals as goal
 
 pub put_catalogue-requires : goal.put_catalogue-requires

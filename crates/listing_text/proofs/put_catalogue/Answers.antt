@@ -1,7 +1,6 @@
 -- `listing_text::put_catalogue` meets its contract: the parts of the text, one behind the other.
 use Rattle.listing_text.specs.Lines.{flat-text}
 use Rattle.listing_text.specs.Laid.{then, same_text}
-use borrow.Author.Rules.{rules}
 use Rattle.listing_text.proofs.put_catalogue.Goals as goal
 
 pub returns : goal.returns

@@ -1,13 +1,10 @@
 -- `listing_text::put_functions` meets its contract: the lines of the rows passed are laid, and the next follows them.
 use mathlib.Core.Path.{◌≡◌, refl, ◌∙◌}
-use Prim.Native.Nat.{◌-◌, ◌*◌, ◌≤◌}
 use native.Mathlib.Omega.{arith}
-use borrow.Author.Rules.{rules}
-use lib.ListN.{length}
 use Rattle.model.specs.Bytes.{each, records}
 use Rattle.model.specs.Listing.{function_line}
 use Rattle.listing_text.specs.Flat.{function_from}
-use Rattle.listing_text.specs.Laid.{Laid, none-laid}
+use Rattle.listing_text.specs.Laid.{none-laid}
 use Rattle.listing_text.specs.Rows.{row_laid}
 use Rattle.listing_text.proofs.put_functions.Goals as goal
 
@@ -22,7 +19,7 @@ loop-k-preserved c =
     let r = c.put_function-o in (
       omega arith,
       omega arith,
-      r.auto.0 ∙ c.loop-k.invariant.2,
+      r.auto.out ∙ c.loop-k.invariant.2,
       row_laid function_line (function_from a.bytes.now) 7 c.loop-k.k c.loop-k.p a.functions.now c.requires.0 c.loop-k.invariant.1 c.loop-k.invariant.3 r.ensures,
     )
 

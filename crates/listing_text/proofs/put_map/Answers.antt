@@ -5,14 +5,7 @@ use Prim.Native.Nat.{◌+◌}
 use lib.ListN.{length, get_or}
 use Rattle.model.specs.Bytes.{part}
 use Rattle.listing_text.specs.Laid.{then, same_text}
-use borrow.Author.Rules.{rules}
 use Rattle.listing_text.proofs.put_map.Goals as goal
-
--- NO GOAL: slice-aggregate-put : tie.Need-slice-aggregate-put
--- NO GOAL: slice-aggregate-put c = search rules
-
--- NO GOAL: slice-aggregate-put-2 : tie.Need-slice-aggregate-put-2
--- NO GOAL: slice-aggregate-put-2 c = search rules
 
 pub returns : goal.returns
 returns c =

@@ -1,13 +1,10 @@
 -- `listing_text::put_maps` meets its contract: the lines of the rows passed are laid, and the next follows them.
 use mathlib.Core.Path.{◌≡◌, refl, ◌∙◌}
-use Prim.Native.Nat.{◌-◌, ◌*◌, ◌≤◌}
 use native.Mathlib.Omega.{arith}
-use borrow.Author.Rules.{rules}
-use lib.ListN.{length}
 use Rattle.model.specs.Bytes.{each, records}
 use Rattle.model.specs.Listing.{map_line}
 use Rattle.model.specs.ReadBack.{map_read}
-use Rattle.listing_text.specs.Laid.{Laid, none-laid}
+use Rattle.listing_text.specs.Laid.{none-laid}
 use Rattle.listing_text.specs.Rows.{row_laid}
 use Rattle.listing_text.proofs.put_maps.Goals as goal
 
@@ -22,7 +19,7 @@ loop-k-preserved c =
     let r = c.put_map-o in (
       omega arith,
       omega arith,
-      r.auto.0 ∙ c.loop-k.invariant.2,
+      r.auto.out ∙ c.loop-k.invariant.2,
       row_laid map_line (map_read a.bytes.now) 27 c.loop-k.k c.loop-k.p a.maps.now c.requires.0 c.loop-k.invariant.1 c.loop-k.invariant.3 r.ensures,
     )
 

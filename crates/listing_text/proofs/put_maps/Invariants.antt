@@ -1,13 +1,10 @@
-use mathlib.Core.Path.{◌≡◌, refl, ◌∙◌}
+use mathlib.Core.Path.{◌≡◌}
 use Prim.Native.Nat.{◌-◌, ◌*◌, ◌≤◌}
-use native.Mathlib.Omega.{arith}
-use borrow.Author.Rules.{rules}
 use lib.ListN.{length}
 use Rattle.model.specs.Bytes.{each, records}
 use Rattle.model.specs.Listing.{map_line}
 use Rattle.model.specs.ReadBack.{map_read}
-use Rattle.listing_text.specs.Laid.{Laid, none-laid}
-use Rattle.listing_text.specs.Rows.{row_laid}
+use Rattle.listing_text.specs.Laid.{Laid}
 use Rattle.listing_text.proofs.put_maps.Given as goal
 
 abbrev pub invariant-loop-k : goal.invariant-loop-k

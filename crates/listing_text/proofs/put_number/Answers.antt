@@ -1,10 +1,6 @@
 -- `listing_text::put_number` meets its contract: the space, and the decimal behind it.
 use Rattle.listing_text.specs.Laid.{then}
-use borrow.Author.Rules.{rules}
 use Rattle.listing_text.proofs.put_number.Goals as goal
-
--- NO GOAL: slice-aggregate-put : tie.Need-slice-aggregate-put
--- NO GOAL: slice-aggregate-put c = search rules
 
 pub returns : goal.returns
 returns c =

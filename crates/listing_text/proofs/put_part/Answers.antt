@@ -4,7 +4,6 @@ use Prim.Native.Nat.{◌-◌}
 use Rattle.model.specs.Bytes.{part}
 use Rattle.listing_text.specs.Laid.{same_text}
 use Rattle.listing_text.specs.Spans.{span-part}
-use borrow.Author.Rules.{rules}
 use Rattle.listing_text.proofs.put_part.Goals as goal
 
 pub returns : goal.returns

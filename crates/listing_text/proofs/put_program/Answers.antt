@@ -1,17 +1,7 @@
 -- `listing_text::put_program` meets its contract: the line's pieces, one behind the other.
 use Rattle.listing_text.specs.Lines.{program-text}
 use Rattle.listing_text.specs.Laid.{then, same_text}
-use borrow.Author.Rules.{rules}
 use Rattle.listing_text.proofs.put_program.Goals as goal
-
--- NO GOAL: slice-aggregate-put : tie.Need-slice-aggregate-put
--- NO GOAL: slice-aggregate-put c = search rules
-
--- NO GOAL: slice-aggregate-put-2 : tie.Need-slice-aggregate-put-2
--- NO GOAL: slice-aggregate-put-2 c = search rules
-
--- NO GOAL: slice-aggregate-put-3 : tie.Need-slice-aggregate-put-3
--- NO GOAL: slice-aggregate-put-3 c = search rules
 
 pub returns : goal.returns
 returns c =

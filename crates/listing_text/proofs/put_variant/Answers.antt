@@ -1,7 +1,6 @@
 -- `listing_text::put_variant` meets its contract: what lies between two starts of the table is the name.
 use Rattle.listing_text.specs.Laid.{same_text}
 use Rattle.listing_text.specs.Variants.{start-before, end-inside, name-found}
-use borrow.Author.Rules.{rules}
 use Rattle.listing_text.proofs.put_variant.Goals as goal
 
 pub slice_bounds-put-count : goal.slice_bounds-put-count

@@ -1,9 +1,5 @@
 -- `listing_text::put_version` meets its contract: each arm is the text of its version.
-use borrow.Author.Rules.{rules}
 use Rattle.listing_text.proofs.put_version.Goals as goal
-
--- NO GOAL: slice-aggregate-put : tie.Need-slice-aggregate-put
--- NO GOAL: slice-aggregate-put c = search rules
 
 pub returns-in-Any : goal.returns-in-Any
 returns-in-Any c =
