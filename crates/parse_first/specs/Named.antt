@@ -1,7 +1,7 @@
 -- The first section of a name, by its number; those of the two names that are looked for.
 use Rattle.std.proofs.Math.Path.{◌≡◌, refl, ap}
 use Rattle.std.proofs.Common.{sym, ◌∙◌, add-one}
-use Rattle.std.specs.Prelude.{Bool, List, [], ◌∷◌, map}
+use Rattle.std.specs.Prelude.{Bool, List, [], ◌∷◌}
 use Rattle.std.proofs.Math.Bool.{true, false, cond}
 use Rattle.std.proofs.Math.Option.{Option, none, some}
 use Prim.Native.Nat.{ℕ, zero, suc, ◌+◌, ◌<◌}
@@ -9,14 +9,12 @@ use native.Mathlib.Omega.{arith}
 use Rattle.std.proofs.Math.ListN.{length}
 use Rattle.lists.specs.Tab.{tab}
 use Rattle.object_view.specs.declared.View.{View}
-use Rattle.model.specs.Bytes.{ascii, same, first_in, find, or_else, maybe}
-use Rattle.model.specs.Object.{Section}
-use Rattle.model.specs.Symbols.{first_named}
-use Rattle.catalogue_laws.specs.Numbers.{up_to, first_in-append, tab-is-map}
+use Rattle.model.specs.Bytes.{ascii, same, first_in, find, or_else}
+use Rattle.catalogue_laws.specs.Numbers.{up_to, first_in-append}
 use Rattle.stream.specs.Stream.{length-bytes}
 use Rattle.names.specs.Words.{same-lengths}
 use Rattle.records.specs.View.{gap_of, name_in, section_at}
-use Rattle.object.specs.View.{section_from, section_in, object_in}
+use Rattle.object.specs.View.{section_from, section_in}
 use Rattle.parse_first.specs.declared.Found.{Found}
 use Rattle.parse_first.specs.declared.Named.{Named}
 
@@ -77,17 +75,6 @@ module _ (p : ℕ → Bool) where
       go none true f g = let q : some n ≡ some i = g in let r : n ≡ i = cc in omega arith
       go none false f g = let z : ◌≡◌ {A = ℕ} 0 1 = cc in absurd (omega arith)
 
-find-map : {A : Type 0} (p : A → Bool) (s : ℕ → A) (l : List ℕ) → find p (map s l) ≡ maybe (find (λ i. p (s i)) l) none (λ i. some (s i))
-unfolding find first_in
-find-map p s [] = refl
-find-map {A} p s (j ∷ l) = go (p (s j)) (find-map p s l)
-  where
-    go : (b : Bool) → first_in (λ y. cond (p y) (some y) none) (map s l) ≡ maybe (first_in (λ i. cond (p (s i)) (some i) none) l) none (λ i. some (s i))
-        → or_else (cond b (some (s j)) none) (first_in (λ y. cond (p y) (some y) none) (map s l))
-        ≡ maybe (or_else (cond b (some j) none) (first_in (λ i. cond (p (s i)) (some i) none) l)) none (λ i. some (s i))
-    go true h = refl
-    go false h = h
-
 -- ---- sections by name
 
 module _ (d t : List ℕ) (v : View) (word : List ℕ) where
@@ -98,26 +85,6 @@ module _ (d t : List ℕ) (v : View) (word : List ℕ) where
   -- the first section of that name
   unfoldable pub number_named : Option ℕ
   number_named = first_with_name named_at v.sections
-
-  pub number-named : first_named word (tab (section_in d t v) v.sections) ≡ maybe number_named none (λ i. some (section_in d t v i))
-  unfolding first_named number_named
-  number-named =
-      ap (find (λ s. same word s.name)) (tab-is-map (section_in d t v) v.sections)
-      ∙ find-map (λ s. same word s.name) (section_in d t v) (up_to v.sections)
-
-  -- what is made of that section
-  pub made-of-named : {B : Type 0} (b : B) (f : Section → B)
-      → maybe (first_named word (object_in d t v).sections) b f ≡ maybe number_named b (λ i. f (section_in d t v i))
-  unfolding object_in
-  made-of-named b f = ap (λ o. maybe o b f) number-named ∙ go number_named
-    where
-      go : (o : Option ℕ) → maybe (maybe o none (λ i. some (section_in d t v i))) b f ≡ maybe o b (λ i. f (section_in d t v i))
-      go none = refl
-      go (some i) = refl
-
-  pub number-below : (i : ℕ) → number_named ≡ some i → i < v.sections
-  unfolding number_named
-  number-below i e = first_below named_at v.sections i e
 
 -- ---- the two names
 
@@ -151,10 +118,6 @@ module _ (d t : List ℕ) (v : View) where
     found-or (first_with_name (named_at d t v (ascii "license")) i) (named_at d t v (ascii "license") i) i,
     found-or (first_with_name (named_at d t v (ascii "version")) i) (named_at d t v (ascii "version") i) i,
   )
-
-  pub named-all : named_below v.sections ≡ named_in
-  unfolding number_named
-  named-all = refl
 
   -- both words have 7 bytes
   pub named_other : (i : ℕ) (f : Named) → ((section_at d t v i).name.length ≡ 7 → ⊥) → with_section i f ≡ f

@@ -3,7 +3,8 @@ use mathlib.Core.Path.{◌≡◌, sym, ap, ◌∙◌}
 use Prim.Native.Nat.{◌+◌, ◌<◌}
 use native.Mathlib.Omega.{arith}
 use Rattle.records.specs.Records.{cursor, step-record, step_end}
-use Rattle.parse_first.specs.Named.{named_below, named_none, named-next, named-all}
+use Rattle.parse_first.specs.Named.{named_below, named_none, named-next}
+use Rattle.parse_first.proofs.NamedLaws.{named-all}
 use Rattle.parse_first.proofs.find_named.Goals as goal
 use Rattle.parse_first.proofs.find_named.Goals.{In-Record}
 

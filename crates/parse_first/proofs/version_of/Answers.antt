@@ -7,7 +7,7 @@ use Rattle.model.specs.Bytes.{ascii}
 use Rattle.model.specs.LicenceVersion.{version_in}
 use Rattle.object.specs.View.{section_in}
 use Rattle.parse_first.specs.Named.{number_named, found_nothing, found_at}
-use Rattle.parse_first.specs.LicenceVersion.{version-by-number, version-kept}
+use Rattle.parse_first.proofs.LicenceVersionLaws.{version-by-number, version-kept}
 use Rattle.parse_first.proofs.version_of.Goals as goal
 
 pub returns-in_default : goal.returns-in_default

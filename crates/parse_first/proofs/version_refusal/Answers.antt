@@ -3,7 +3,8 @@ use mathlib.Core.Path.{sym, ◌∙◌}
 use mathlib.Core.Option.{none}
 use Rattle.model.specs.Bytes.{ascii}
 use Rattle.model.specs.Refusals.{version_refusal}
-use Rattle.parse_first.specs.Named.{number_named, found_nothing, found_at, made-of-named, number-below}
+use Rattle.parse_first.specs.Named.{number_named, found_nothing, found_at}
+use Rattle.parse_first.proofs.NamedLaws.{made-of-named, number-below}
 use Rattle.parse_first.proofs.version_refusal.Goals as goal
 
 pub returns-in_default : goal.returns-in_default

@@ -1,0 +1,3 @@
+-- The laws that rest on which section of a name counts.
+pub mod NamedLaws
+pub mod LicenceVersionLaws
