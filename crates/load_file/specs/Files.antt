@@ -7,7 +7,6 @@ use Rattle.model.specs.Bytes.{maybe}
 use Rattle.model.specs.ElfRefusals.{elf_refusal, load_elf, load_elf_of}
 use Rattle.model.specs.Lent.{outcome_in}
 use Rattle.object_view.specs.declared.Opened.{Opened}
-use Rattle.object_view.specs.declared.View.{View}
 use Rattle.elf_layout.specs.declared.FileCheck.{FileCheck}
 use Rattle.elf_layout.specs.Layout.{checked_file, elf_view}
 use Rattle.elf.specs.Opened.{index_length, opened_file, FileOpened, checked-most}

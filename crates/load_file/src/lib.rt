@@ -1,5 +1,6 @@
 // The load of a file that was checked, with its index in an array of one size.
 #![tactic(auto)]
+
 ghost use Rattle.std.specs.Prelude.{◌≡◌, ◌≤◌};
 ghost use Rattle.model.specs.ElfRefusals.{load_elf_of};
 ghost use Rattle.model.specs.Lent.{lent, room_in, outcome};

@@ -1,2 +1,0 @@
-pub mod Outer
-pub mod Sized
