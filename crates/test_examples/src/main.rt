@@ -1,6 +1,6 @@
 // Document 01, 'From the register's drawer': the examples that are run. A line has the number expected and the number got, 0 where nothing is refused.
 #![tactic(auto)]
-use libc::STDOUT_FILENO;
+
 use model::{
     Endianness, Extent, Head, ParsedLicense, ParsedProgramSection, ParsedVersion, SectionIndex,
     SectionRecord, SymbolIndex, SymbolRecord,
@@ -8,14 +8,10 @@ use model::{
 use object::Checked;
 use parse_text::ParsedText;
 use records::deposit_view;
+use std::io;
 
-fn line(name: &[u8], expected: u64, got: u64) {
-    io::write_all(STDOUT_FILENO, name);
-    io::write_all(STDOUT_FILENO, b" expected ");
-    io::print_decimal(STDOUT_FILENO, expected);
-    io::write_all(STDOUT_FILENO, b" got ");
-    io::print_decimal(STDOUT_FILENO, got);
-    io::write_all(STDOUT_FILENO, b"\n");
+fn line(rt: &impl Print, name: &str, expected: u64, got: u64) -> io::Result<()> {
+    println!(rt; "{name} expected {expected} got {got}")
 }
 
 fn license_number(p: ParsedLicense) -> u64 {
@@ -40,46 +36,53 @@ fn section_number(p: ParsedProgramSection) -> u64 {
     }
 }
 
-fn licenses() {
+fn licenses(rt: &impl Print) -> io::Result<()> {
     line(
-        b"licence of one zero byte",
+        rt,
+        "licence of one zero byte",
         5,
         license_number(license::parse_license(b"\0", 0, 0, 1)),
-    );
+    )?;
     line(
-        b"licence of one byte",
+        rt,
+        "licence of one byte",
         5,
         license_number(license::parse_license(b"a", 0, 0, 1)),
-    );
+    )?;
     line(
-        b"licence of GPL and zero",
+        rt,
+        "licence of GPL and zero",
         0,
         license_number(license::parse_license(b"GPL\0", 0, 0, 4)),
-    );
+    )?;
     line(
-        b"licence of GPL",
+        rt,
+        "licence of GPL",
         6,
         license_number(license::parse_license(b"GPL\0", 0, 0, 3)),
-    );
+    )
 }
 
-fn versions() {
+fn versions(rt: &impl Print) -> io::Result<()> {
     let d = b"\x01\x02\x03\x04\x05";
     line(
-        b"version of 3 bytes",
+        rt,
+        "version of 3 bytes",
         7,
         version_number(license::parse_version(d, 0, 0, 3, Endianness::Little)),
-    );
+    )?;
     line(
-        b"version of 4 bytes",
+        rt,
+        "version of 4 bytes",
         0,
         version_number(license::parse_version(d, 0, 0, 4, Endianness::Little)),
-    );
+    )?;
     line(
-        b"version of 5 bytes",
+        rt,
+        "version of 5 bytes",
         7,
         version_number(license::parse_version(d, 0, 0, 5, Endianness::Big)),
-    );
+    )
 }
 
 // 16 where a record of n bytes is refused, else ten times its id and its pinning.
@@ -96,37 +99,41 @@ fn record(d: &[u8], n: usize) -> u64 {
 }
 
 // The sixth word is 3 and the seventh 1; a byte follows. A record of 27 ends before a byte that isn't 0: read with it, the pinning would be refused.
-fn records() {
+fn records(rt: &impl Print) -> io::Result<()> {
     let d = b"\0\0\0\0\0\0\0\0\0\0\0\0\0\0\0\0\0\0\0\0\x03\0\0\0\x01\0\0\0\xFF";
     let cut = b"\0\0\0\0\0\0\0\0\0\0\0\0\0\0\0\0\0\0\0\0\x03\0\0\0\x01\0\0\xFF";
-    line(b"record of 19", 16, record(d, 19));
-    line(b"record of 20, id and pinning", 0, record(d, 20));
-    line(b"record of 27, id and pinning", 31, record(cut, 27));
-    line(b"record of 28, id and pinning", 31, record(d, 28));
-    line(b"record of 29, id and pinning", 31, record(d, 29));
+    line(rt, "record of 19", 16, record(d, 19))?;
+    line(rt, "record of 20, id and pinning", 0, record(d, 20))?;
+    line(rt, "record of 27, id and pinning", 31, record(cut, 27))?;
+    line(rt, "record of 28, id and pinning", 31, record(d, 28))?;
+    line(rt, "record of 29, id and pinning", 31, record(d, 29))
 }
 
-fn names() {
+fn names(rt: &impl Print) -> io::Result<()> {
     line(
-        b"bare cgroup",
+        rt,
+        "bare cgroup",
         8,
         section_number(program_section::from_str(b"cgroup", 0, 0, 6)),
-    );
+    )?;
     line(
-        b"bare sk_skb",
+        rt,
+        "bare sk_skb",
         8,
         section_number(program_section::from_str(b"sk_skb", 0, 0, 6)),
-    );
+    )?;
     line(
-        b"xdp/",
+        rt,
+        "xdp/",
         8,
         section_number(program_section::from_str(b"xdp/", 0, 0, 4)),
-    );
+    )?;
     line(
-        b"kprobe/a/b",
+        rt,
+        "kprobe/a/b",
         0,
         section_number(program_section::from_str(b"kprobe/a/b", 0, 0, 10)),
-    );
+    )
 }
 
 // A text of so many bytes.
@@ -195,12 +202,12 @@ fn empty_text() -> u64 {
     }
 }
 
-fn texts() {
-    line(b"text of 16, size 16", 0, text_number(16));
-    line(b"text of 16, size 12", 15, text_number(12));
-    line(b"text of 16, size 24", 14, text_number(24));
-    line(b"text of 16, size 0", 13, text_number(0));
-    line(b"functions of an empty text", 0, empty_text());
+fn texts(rt: &impl Print) -> io::Result<()> {
+    line(rt, "text of 16, size 16", 0, text_number(16))?;
+    line(rt, "text of 16, size 12", 15, text_number(12))?;
+    line(rt, "text of 16, size 24", 14, text_number(24))?;
+    line(rt, "text of 16, size 0", 13, text_number(0))?;
+    line(rt, "functions of an empty text", 0, empty_text())
 }
 
 fn wide(x: u8) -> u64 {
@@ -214,16 +221,16 @@ fn immediate(regs: u8) -> u64 {
     wide(call[4])
 }
 
-fn rewriting() {
-    line(b"85 00 00 00 71 00 00 00", 4, immediate(0));
-    line(b"85 10 00 00 71 00 00 00", 113, immediate(0x10));
+fn rewriting(rt: &impl Print) -> io::Result<()> {
+    line(rt, "85 00 00 00 71 00 00 00", 4, immediate(0))?;
+    line(rt, "85 10 00 00 71 00 00 00", 113, immediate(0x10))
 }
 
-fn main() {
-    licenses();
-    versions();
-    records();
-    names();
-    texts();
-    rewriting();
+fn main(rt: HostRuntime) -> io::Result<()> {
+    licenses(&rt)?;
+    versions(&rt)?;
+    records(&rt)?;
+    names(&rt)?;
+    texts(&rt)?;
+    rewriting(&rt)
 }
