@@ -3,7 +3,7 @@
 
 ghost use Rattle.std.specs.Prelude.{◌≡◌, ◌+◌, ◌-◌, ◌≤◌, length};
 ghost use Rattle.std.proofs.Math.Option.{some};
-ghost use Rattle.catalogue_laws.specs.Shared.{earlier as earlierOf, least_again};
+ghost use Rattle.catalogue_laws.specs.Shared.{earlier as earlier_of, least_again};
 ghost use Rattle.object.specs.View.{section_from};
 ghost use Rattle.object.specs.Checked.{checked_of};
 ghost use Rattle.parse_text.specs.Group.{address_in, text_group, text_in};
@@ -39,7 +39,7 @@ struct Again {
 }
 
 fn earlier(a: Conflict, j: u32) -> Conflict
-    ensures { result ≡ conflict_of (earlierOf (conflict_number a) (some j)) }
+    ensures { result ≡ conflict_of (earlier_of (conflict_number a) (some j)) }
 {
     match a {
         Conflict::At(i) => {
