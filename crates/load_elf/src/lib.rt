@@ -1,5 +1,6 @@
 // The load call for ELF files.
 #![tactic(auto)]
+
 ghost use Rattle.std.specs.Prelude.{◌≡◌, leb};
 ghost use Rattle.model.specs.ElfRefusals.{load_elf_of};
 ghost use Rattle.model.specs.Lent.{lent, room_in, outcome};

@@ -1,6 +1,0 @@
--- `load_elf::is_medium` meets its contract.
-use borrow.Author.Rules.{rules}
-use Rattle.load_elf.proofs.is_medium.Goals as goal
-
-pub returns : goal.returns
-returns c = rw c.index_length.ensures
