@@ -7,12 +7,14 @@
 // For each the program writes the name, what was expected, and what `open` answered: the refusal's number, or 0 and six numbers of the view:
 // byte order, sections, symbols, relocations, and where the names and the data begin.
 #![tactic(auto)]
-ghost use Rattle.std.specs.Prelude.{◌+◌, ◌^◌, ◌<◌, ◌≤◌, length};
 
-use libc::STDOUT_FILENO;
+ghost use Rattle.std.specs.Prelude.{◌≡◌, ◌+◌, ◌^◌, ◌<◌, ◌≤◌, length, IfOk};
+
 use model::{Endianness, Head};
 use object_view::Opened;
 use records::{end_of, names_at, relocations_at, symbols_at};
+use std::io;
+use std::io::Read;
 use std::num::wrapping_add_u32;
 use stream::{size, wide32};
 
@@ -227,9 +229,8 @@ fn build(d: &mut [u8], h: Head, s: &[u8], at: usize)
     change(d, s, at, true);
 }
 
-fn say_number(n: u32) {
-    io::write_all(STDOUT_FILENO, b" ");
-    io::print_decimal(STDOUT_FILENO, n as u64);
+fn say_number(rt: &impl Print, n: u32) -> io::Result<()> {
+    print!(rt; " {n}")
 }
 
 fn order_number(order: Endianness) -> u32 {
@@ -239,21 +240,19 @@ fn order_number(order: Endianness) -> u32 {
     }
 }
 
-fn say_opened(o: Opened) {
+fn say_opened(rt: &impl Print, o: Opened) -> io::Result<()> {
     match o {
         Opened::View(v) => {
             let order = v.order;
-            say_number(0);
-            say_number(order_number(order));
-            say_number(v.sections);
-            say_number(v.symbols);
-            say_number(v.relocations);
-            say_number(v.at.names);
-            say_number(v.at.bytes);
+            say_number(rt, 0)?;
+            say_number(rt, order_number(order))?;
+            say_number(rt, v.sections)?;
+            say_number(rt, v.symbols)?;
+            say_number(rt, v.relocations)?;
+            say_number(rt, v.at.names)?;
+            say_number(rt, v.at.bytes)
         }
-        Opened::Refused(r) => {
-            say_number(r.number);
-        }
+        Opened::Refused(r) => say_number(rt, r.number),
     }
 }
 
@@ -303,7 +302,7 @@ fn shape(s: &[u8], at: usize) -> Counts
     }
 }
 
-fn run_line(s: &[u8], d: &mut [u8]) {
+fn run_line(rt: &impl Print, s: &[u8], d: &mut [u8]) -> io::Result<()> {
     let name = find(s, 0, b' ');
     let expected = number(s, name);
     let counts = shape(s, expected.end);
@@ -311,27 +310,50 @@ fn run_line(s: &[u8], d: &mut [u8]) {
     let n = opened_length(len.value, counts.head);
     let room = least(n + 512, d.len());
     build(&mut d[0..room], counts.head, s, len.end);
-    io::write_all(STDOUT_FILENO, &s[0..name]);
-    io::write_all(STDOUT_FILENO, b" expected");
-    say_number(expected.value);
-    io::write_all(STDOUT_FILENO, b" got");
+    rt.write_all(&s[0..name])?;
+    rt.write_all(b" expected")?;
+    say_number(rt, expected.value)?;
+    rt.write_all(b" got")?;
     let e = least(n, d.len());
-    say_opened(deposit::open(&d[0..e]));
-    io::write_all(STDOUT_FILENO, b"\n");
+    say_opened(rt, deposit::open(&d[0..e]))?;
+    rt.write_all(b"\n")
 }
 
-fn run(text: &[u8], d: &mut [u8]) {
+fn run(rt: &impl Print, text: &[u8], d: &mut [u8]) -> io::Result<()> {
     let mut at: usize = 0;
     while at < text.len() {
         let end = find(text, at, b'\n');
-        run_line(&text[at..end], d);
+        run_line(rt, &text[at..end], d)?;
         at = end + 1;
     }
+    Ok(())
 }
 
-fn main() {
+// Reads until text is full or the input ends; how many bytes it put at the start of text.
+fn read_full(input: &mut impl Read, text: &mut [u8]) -> io::Result<usize>
+    ensures { IfOk result (λ n. n ≤ length text.new) }
+{
+    let mut done: usize = 0;
+    while done < text.len() {
+        let n = input.read(&mut text[done..])?;
+        if n == 0 {
+            break;
+        }
+        done += n;
+    }
+    Ok(done)
+}
+
+// The room of a deposit. The contract tells the length alone, so no proof of a caller computes on what the array holds.
+fn room() -> [u8; 3145728]
+    ensures { 3145728 ≡ length result }
+{
+    [0; 3145728]
+}
+
+fn main(rt: HostRuntime) -> io::Result<()> {
     let mut text = [0u8; 65536];
-    let n = io::read_full(libc::STDIN_FILENO, &mut text);
-    let mut d = [0u8; 3145728];
-    run(&text[..n], &mut d);
+    let n = read_full(&mut rt.reader(), &mut text)?;
+    let mut d = room();
+    run(&rt, &text[..n], &mut d)
 }

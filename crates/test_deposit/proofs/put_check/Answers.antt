@@ -1,5 +1,5 @@
 -- `test_deposit::put_check` is safe and ends.
-use Rattle.std.proofs.Common.{arith, length-set, rules}
+use Rattle.std.proofs.Common.{arith, length-set}
 use Rattle.test_deposit.proofs.put_check.Goals as goal
 
 pub bounds-d-i-2 : goal.bounds-d-i-2
