@@ -4,9 +4,9 @@
 // What is written of a case is its name and the answer, then `zeros` if all that was lent is 0, else the five tables and the bytes, where `x(n)` again
 // is x and n more of it.
 #![tactic(auto)]
+
 ghost use Rattle.std.specs.Prelude.{◌+◌, ◌<◌, ◌≤◌, length};
 
-use libc::STDOUT_FILENO;
 use model::{Answer, Endianness, KernelVersion, Refusal, Summary};
 use std::num::wrapping_add_u64;
 use stream::wide64;
@@ -379,6 +379,7 @@ fn put_lent(
 
 // Writes the answer and what is lent behind the name.
 pub fn tell(
+    rt: &impl Print,
     name: &[u8],
     answer: Answer,
     sections: &[u64],
@@ -388,7 +389,7 @@ pub fn tell(
     relocations: &[u64],
     bytes: &[u8],
     out: &mut [u8],
-) {
+) -> std::io::Result<()> {
     let mut end = put_text(out, 0, name);
     end = put_answer(out, end, answer);
     end = put(out, end, b'\n');
@@ -403,7 +404,7 @@ pub fn tell(
         bytes,
     );
     let n = least(end as u64, out.len());
-    io::write_all(STDOUT_FILENO, &out[0..n]);
+    rt.write_all(&out[0..n])
 }
 
 // ---- a case
