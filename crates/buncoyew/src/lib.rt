@@ -1,5 +1,6 @@
 // The load calls and the look-up in a function table, for programs in C and Rust to link: include/buncoyew.h.
 #![tactic(auto)]
+
 ghost use Rattle.std.specs.Prelude.{◌≡◌, [], ◌∷◌};
 ghost use Rattle.model.specs.Lent.{lent, room_in, load_of};
 ghost use Rattle.model.specs.ElfRefusals.{load_elf_of};
