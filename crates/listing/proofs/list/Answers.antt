@@ -18,7 +18,6 @@ use Rattle.listing_text.specs.Laid.{same_text, whole-text}
 use Rattle.listing_laws.specs.Bound.{refusal-most}
 use Rattle.listing_laws.specs.Text.{answer-fits, answer-text, text-most, long-text, short-text}
 use Rattle.listing_laws.specs.Written.{counted}
-use borrow.Author.Rules.{rules}
 use Rattle.listing.proofs.list.Goals as goal
 
 pub returns-then-d-gt65536 : goal.returns-then-d-gt65536
@@ -48,7 +47,7 @@ returns c =
     let n : ℕ = length a.functions.now in
     let e : r ≡ o.reply = flat-answer n o r _ _ _ _ _ _ c.load_flat-answer.ensures in
     let t = answer-text (Input.deposit d) [] [] false room _ _ _ _ (flat-tables n o r _ _ _ _ _ _ c.load_flat-answer.ensures) r e ∙ sym (short-text room d c.if-d-gt65536.false) in
-    let small : AllBytes d = all-bytes d (λ k. (c.shared_slice_known-1.given k).fits) in
-    let m : length (listing_of room d) ≤ room.bytes-1 + 10 * room.programs-1 + 73 * room.functions-1 + 3 * room.maps-1 + 71 = rw (short-text room d c.if-d-gt65536.false) (text-most (Input.deposit d) [] [] false room small r e) in
+    let small : AllBytes d = all-bytes d (λ k. (c.type_inv.d k).fits) in
+    let m : length (listing_of room d) ≤ room.bytes + 10 * room.programs + 73 * room.functions + 3 * room.maps + 71 = rw (short-text room d c.if-d-gt65536.false) (text-most (Input.deposit d) [] [] false room small r e) in
     let l = same_text t c.put_answer.ensures in
     (counted c.put_answer.result c.put_answer.new.out l.within, whole-text (omega (arith, c.requires)) l)
