@@ -1,5 +1,6 @@
 // The load call for ELF files with the function table as numbers, seven a row: section, address, offset, name at, name length, code at, code length.
 #![tactic(auto)]
+
 ghost use Rattle.std.specs.Prelude.{◌≡◌, length};
 ghost use Rattle.model.specs.ElfRefusals.{load_elf_of};
 ghost use Rattle.model.specs.FunctionNumbers.{flat, flat_of, flat_room};
