@@ -1,2 +1,2 @@
--- What the contracts of `load_file` and the walks of `load_elf` cite.
+-- What the contracts of `load_file` and the proofs above it cite.
 pub mod Files
