@@ -1,5 +1,6 @@
 // The load calls with the function table as numbers, seven a row: section, address, offset, name at, name length, code at, code length.
 #![tactic(auto)]
+
 ghost use Rattle.std.specs.Prelude.{◌≡◌, length};
 ghost use Rattle.model.specs.FunctionNumbers.{flat, flat_of, flat_room};
 ghost use Rattle.model.specs.Lent.{load_of, outcome_in};

@@ -1,13 +1,11 @@
 -- `load_numbers::load_flat_opened` meets its contract.
-use mathlib.Core.Path.{◌≡◌}
-use Prim.Native.Nat.{ℕ}
-use lib.ListN.{length, replicate, length-replicate}
+use Rattle.std.proofs.Common.{ℕ, length, replicate}
+use Rattle.std.proofs.Math.ListN.{length-replicate}
 use Rattle.model.specs.FunctionNumbers.{rows_in, flat_room}
 use Rattle.model.specs.Lent.{outcome_in}
 use Rattle.rows_functions.specs.Rows.{rows_made}
 use Rattle.load_object.specs.Done.{verdict_in}
 use Rattle.load_numbers.specs.Loads.{opens-few, flat-done}
-use borrow.Author.Rules.{rules}
 use Rattle.load_numbers.proofs.load_flat_opened.Goals as goal
 
 pub load_core-loaded-requires : goal.load_core-loaded-requires
@@ -22,5 +20,5 @@ returns c =
     flat-done (length a.functions.now)
     (outcome_in (flat_room a.sections.now a.programs.now a.functions.now a.maps.now a.relocations.now a.bytes.now)
     (verdict_in a.d.now a.t.now a.opened a.entries.now a.patches.now a.rewrite))
-    k.result.answer k.new.1.1.1.1.1.1.1.0 k.new.1.1.1.1.1.1.1.1.0 f.new.0 k.new.1.1.1.1.1.1.1.1.1.0 k.new.1.1.1.1.1.1.1.1.1.1.0 k.new.1.1.1.1.1.1.1.1.1.1.1.0
-    (rows_made a.d.now a.t.now k.new.1.1.1.1.1.1.1.1.1.1.1.1.0 0 k.result.rows (rows_in (length a.functions.now))) f.ensures k.ensures.0
+    k.result.answer k.new.sections k.new.programs f.new.numbers k.new.maps k.new.relocations k.new.bytes
+    (rows_made a.d.now a.t.now k.new.symbols 0 k.result.rows (rows_in (length a.functions.now))) f.ensures k.ensures.0
