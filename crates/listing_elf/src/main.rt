@@ -1,17 +1,18 @@
 // Reads an ELF file from standard input and writes its catalogue, or why it goes back.
 #![tactic(auto)]
+
 mod room;
 
-ghost use Rattle.std.specs.Prelude.{◌≡◌, ◌+◌, ◌*◌, ◌≤◌, length, take};
+ghost use Rattle.std.specs.Prelude.{◌≡◌, ◌+◌, ◌*◌, ◌≤◌, length, take, IfOk};
 ghost use Rattle.io.specs.Counts.{IsPrefixLen};
 ghost use Rattle.model.specs.ElfRefusals.{file_listing_of};
 ghost use Rattle.model.specs.FunctionNumbers.{flat_room};
 ghost use Rattle.listing_laws.specs.Text.{file_too_long};
 
-use libc::{STDIN_FILENO, STDOUT_FILENO};
 use listing_text::{put_answer, put_refusal};
 use load_elf_numbers::load_flat_elf;
 use model::{Refusal, SectionIndex, SymbolIndex};
+use std::io::{Read, Result};
 
 fn too_long() -> Refusal
     ensures { result ≡ file_too_long }
@@ -43,7 +44,7 @@ fn list(
         maps.old relocations.old bytes.old)
         d.now) }
 {
-    if 1048576 < d.len() {
+    if 1048575 < d.len() {
         return put_refusal(out, 0, too_long());
     }
     let entries = [0u64; 0];
@@ -62,9 +63,24 @@ fn list(
     put_answer(out, 0, answer, programs, functions, maps, bytes)
 }
 
-fn main() {
+// Reads until d is full or the input ends; how many bytes it put at the start of d.
+fn read_full(input: &mut impl Read, d: &mut [u8]) -> Result<usize>
+    ensures { IfOk result (λ n. n ≤ length d.new) }
+{
+    let mut done: usize = 0;
+    while done < d.len() {
+        let n = input.read(&mut d[done..])?;
+        if n == 0 {
+            break;
+        }
+        done += n;
+    }
+    Ok(done)
+}
+
+fn main(rt: HostRuntime) -> Result<()> {
     let mut d = room::file();
-    let n = io::read_full(STDIN_FILENO, &mut d);
+    let n = read_full(&mut rt.reader(), &mut d)?;
     let mut sections = room::sections();
     let mut programs = room::symbols();
     let mut functions = room::symbols();
@@ -82,5 +98,5 @@ fn main() {
         &mut bytes,
         &mut out,
     );
-    io::write_all(STDOUT_FILENO, &out[..end]);
+    rt.write_all(&out[..end])
 }
