@@ -44,7 +44,7 @@ fn list(
         maps.old relocations.old bytes.old)
         d.now) }
 {
-    if 1048575 < d.len() {
+    if 1048576 < d.len() {
         return put_refusal(out, 0, too_long());
     }
     let entries = [0u64; 0];

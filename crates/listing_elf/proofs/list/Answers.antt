@@ -21,9 +21,9 @@ use Rattle.listing_laws.specs.Text.{answer-fits, answer-text, text-most, long-fi
 use Rattle.listing_laws.specs.Written.{counted}
 use Rattle.listing_elf.proofs.list.Goals as goal
 
-pub returns-then-d-gt1048575 : goal.returns-then-d-gt1048575
-returns-then-d-gt1048575 c =
-    let e : refusal_text c.too_long.result ≡ file_listing_of 1048576 _ c.args.d.now = ap refusal_text c.too_long.ensures ∙ sym (long-file 1048576 _ c.args.d.now c.if-d-gt1048575.true) in
+pub returns-then-d-gt1048576 : goal.returns-then-d-gt1048576
+returns-then-d-gt1048576 c =
+    let e : refusal_text c.too_long.result ≡ file_listing_of 1048576 _ c.args.d.now = ap refusal_text c.too_long.ensures ∙ sym (long-file 1048576 _ c.args.d.now c.if-d-gt1048576.true) in
     let l = same_text e c.put_refusal.ensures in
     let h = rw e at (refusal-most c.too_long.result) in
     (counted c.put_refusal.result c.put_refusal.new.out l.within, whole-text (omega (arith, c.requires)) l)
@@ -47,8 +47,8 @@ returns c =
     let o : Outcome = load_elf_of d [] [] false room in
     let n : ℕ = length a.functions.now in
     let e : r ≡ o.reply = flat-answer n o r _ _ _ _ _ _ c.load_flat_elf-answer.ensures in
-    let t = answer-text (Input.file d) [] [] false room _ _ _ _ (flat-tables n o r _ _ _ _ _ _ c.load_flat_elf-answer.ensures) r e ∙ sym (short-file 1048576 room d c.if-d-gt1048575.false) in
+    let t = answer-text (Input.file d) [] [] false room _ _ _ _ (flat-tables n o r _ _ _ _ _ _ c.load_flat_elf-answer.ensures) r e ∙ sym (short-file 1048576 room d c.if-d-gt1048576.false) in
     let small : AllBytes d = all-bytes d (λ k. (c.type_inv.d k).fits) in
-    let m : length (file_listing_of 1048576 room d) ≤ room.bytes + 10 * room.programs + 73 * room.functions + 3 * room.maps + 71 = rw (short-file 1048576 room d c.if-d-gt1048575.false) (text-most (Input.file d) [] [] false room small r e) in
+    let m : length (file_listing_of 1048576 room d) ≤ room.bytes + 10 * room.programs + 73 * room.functions + 3 * room.maps + 71 = rw (short-file 1048576 room d c.if-d-gt1048576.false) (text-most (Input.file d) [] [] false room small r e) in
     let l = same_text t c.put_answer.ensures in
     (counted c.put_answer.result c.put_answer.new.out l.within, whole-text (omega (arith, c.requires)) l)
