@@ -1,11 +1,13 @@
 // Each line of the input is a case, in the form of crates/replay_lines. What it lends is filled with a pattern before the call.
 #![tactic(auto)]
-ghost use Rattle.std.specs.Prelude.{◌≤◌, length};
+ghost use Rattle.std.specs.Prelude.{◌≤◌, length, IfOk};
 
 use load_elf_numbers::load_flat_elf;
 use load_numbers::load_flat;
 use model::Answer;
 use replay_lines::Case;
+use std::io;
+use std::io::Read;
 
 mod room;
 
@@ -55,6 +57,7 @@ fn load(
 }
 
 fn replay(
+    rt: &impl Print,
     name: &[u8],
     d: &[u8],
     entries: &[u64],
@@ -66,7 +69,7 @@ fn replay(
     maps: &mut [u64],
     relocations: &mut [u64],
     bytes: &mut [u8],
-) {
+) -> io::Result<()> {
     let answer = load(
         d,
         entries,
@@ -81,6 +84,7 @@ fn replay(
     );
     let mut out = room::answer();
     tell(
+        rt,
         name,
         answer,
         sections,
@@ -90,11 +94,12 @@ fn replay(
         relocations,
         bytes,
         &mut out,
-    );
+    )
 }
 
 // Lends as much of each as the case says, or all.
 fn lend(
+    rt: &impl Print,
     name: &[u8],
     d: &[u8],
     entries: &[u64],
@@ -106,7 +111,7 @@ fn lend(
     maps: &mut [u64],
     relocations: &mut [u64],
     bytes: &mut [u8],
-) {
+) -> io::Result<()> {
     let a = least(rest[1], sections.len());
     let b = least(rest[2], programs.len());
     let f = least(rest[3], functions.len());
@@ -114,6 +119,7 @@ fn lend(
     let r = least(rest[5], relocations.len());
     let y = least(rest[6], bytes.len());
     replay(
+        rt,
         name,
         d,
         entries,
@@ -125,11 +131,18 @@ fn lend(
         &mut maps[0..m],
         &mut relocations[0..r],
         &mut bytes[0..y],
-    );
+    )
 }
 
 // What is lent to be written is as large as a case may ask for.
-fn run_case(name: &[u8], d: &[u8], entries: &[u64], patches: &[u8], rest: [u64; 7]) {
+fn run_case(
+    rt: &impl Print,
+    name: &[u8],
+    d: &[u8],
+    entries: &[u64],
+    patches: &[u8],
+    rest: [u64; 7],
+) -> io::Result<()> {
     let mut sections = room::rows();
     let mut programs = room::rows();
     let mut functions = room::functions();
@@ -137,6 +150,7 @@ fn run_case(name: &[u8], d: &[u8], entries: &[u64], patches: &[u8], rest: [u64; 
     let mut relocations = room::wide_rows();
     let mut bytes = room::bytes();
     lend(
+        rt,
         name,
         d,
         entries,
@@ -148,36 +162,55 @@ fn run_case(name: &[u8], d: &[u8], entries: &[u64], patches: &[u8], rest: [u64; 
         &mut maps,
         &mut relocations,
         &mut bytes,
-    );
+    )
 }
 
 // What is lent to be read is a part of what there is room for.
-fn run_parts(case: Case, s: &[u8], d: &[u8], entries: &[u64], patches: &[u8]) {
+fn run_parts(
+    rt: &impl Print,
+    case: Case,
+    s: &[u8],
+    d: &[u8],
+    entries: &[u64],
+    patches: &[u8],
+) -> io::Result<()> {
     let name = least(case.name as u64, s.len());
     let n = least(case.deposit as u64, d.len());
     let e = least(case.entries as u64, entries.len());
     let p = least(case.patches as u64, patches.len());
     let rest = case.rest;
-    run_case(&s[0..name], &d[0..n], &entries[0..e], &patches[0..p], rest);
+    run_case(rt, &s[0..name], &d[0..n], &entries[0..e], &patches[0..p], rest)
 }
 
-fn run_line(s: &[u8], d: &mut [u8], entries: &mut [u64], patches: &mut [u8]) {
+fn run_line(
+    rt: &impl Print,
+    s: &[u8],
+    d: &mut [u8],
+    entries: &mut [u64],
+    patches: &mut [u8],
+) -> io::Result<()> {
     let case = read_case(s, d, entries, patches);
-    run_parts(case, s, d, entries, patches);
+    run_parts(rt, case, s, d, entries, patches)
 }
 
 // Runs the lines that have their end; where the rest begins.
-fn run(text: &[u8], d: &mut [u8], entries: &mut [u64], patches: &mut [u8]) -> usize {
+fn run(
+    rt: &impl Print,
+    text: &[u8],
+    d: &mut [u8],
+    entries: &mut [u64],
+    patches: &mut [u8],
+) -> io::Result<usize> {
     let mut at: usize = 0;
     while at < text.len() {
         let end = find(text, at, b'\n');
         if end == text.len() {
             break;
         }
-        run_line(&text[at..end], d, entries, patches);
+        run_line(rt, &text[at..end], d, entries, patches)?;
         at = end + 1;
     }
-    at
+    Ok(at)
 }
 
 // Moves the part from `at` to `end` to the front; how long it is.
@@ -195,45 +228,69 @@ fn keep(text: &mut [u8], at: usize, end: usize) -> usize
     n
 }
 
-// Reads behind the first `kept` bytes; where what was read ends.
-fn read_behind(text: &mut [u8], kept: usize) -> usize
-    requires { kept ≤ length text.old }
-    ensures { result ≤ length text.new }
+// Reads until text is full or the input ends; how many bytes it put at the start of text.
+fn read_full(input: &mut impl Read, text: &mut [u8]) -> io::Result<usize>
+    ensures { IfOk result (λ n. n ≤ length text.new) }
 {
-    let n = io::read_full(libc::STDIN_FILENO, &mut text[kept..]);
-    least((kept + n) as u64, text.len())
+    let mut done: usize = 0;
+    while done < text.len() {
+        let n = input.read(&mut text[done..])?;
+        if n == 0 {
+            break;
+        }
+        done += n;
+    }
+    Ok(done)
+}
+
+// Reads behind the first `kept` bytes; where what was read ends.
+fn read_behind(input: &mut impl Read, text: &mut [u8], kept: usize) -> io::Result<usize>
+    requires { kept ≤ length text.old }
+    ensures { IfOk result (λ end. end ≤ length text.new) }
+{
+    let n = read_full(input, &mut text[kept..])?;
+    Ok(least((kept + n) as u64, text.len()))
 }
 
 // Runs the whole lines of the first `end` bytes; how many bytes are left, at the front.
 fn run_part(
+    rt: &impl Print,
     text: &mut [u8],
     end: usize,
     d: &mut [u8],
     entries: &mut [u64],
     patches: &mut [u8],
-) -> usize
+) -> io::Result<usize>
     requires { end ≤ length text.old }
-    ensures { result ≤ length text.new }
+    ensures { IfOk result (λ n. n ≤ length text.new) }
 {
-    let at = run(&text[0..end], d, entries, patches);
-    keep(text, least(at as u64, end), end)
+    let at = run(rt, &text[0..end], d, entries, patches)?;
+    Ok(keep(text, least(at as u64, end), end))
 }
 
 // The room is filled at most 64 times. What the input has behind that isn't run, nor what stands from a line on that the room doesn't hold.
-fn run_all(text: &mut [u8], d: &mut [u8], entries: &mut [u64], patches: &mut [u8]) {
+fn run_all(
+    rt: &(impl Input + Print),
+    text: &mut [u8],
+    d: &mut [u8],
+    entries: &mut [u64],
+    patches: &mut [u8],
+) -> io::Result<()> {
+    let mut input = rt.reader();
     let mut kept: usize = 0;
     let mut left: usize = 64;
     while left > 0 {
-        let end = read_behind(text, kept);
-        kept = run_part(text, end, d, entries, patches);
+        let end = read_behind(&mut input, text, kept)?;
+        kept = run_part(rt, text, end, d, entries, patches)?;
         left -= 1;
     }
+    Ok(())
 }
 
-fn main() {
+fn main(rt: HostRuntime) -> io::Result<()> {
     let mut text = room::text();
     let mut d = room::deposit();
     let mut entries = [0u64; 1024];
     let mut patches = [0u8; 8192];
-    run_all(&mut text, &mut d, &mut entries, &mut patches);
+    run_all(&rt, &mut text, &mut d, &mut entries, &mut patches)
 }

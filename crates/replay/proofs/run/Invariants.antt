@@ -5,8 +5,8 @@ use borrow.Author.Rules.{rules}
 use Rattle.replay.proofs.run.Given as goal
 
 abbrev pub invariant-loop-at : goal.invariant-loop-at
-invariant-loop-at l =
+invariant-loop-at g l =
     (l.at ≤ length l.text) × (length l.d ≡ length l.initial.d) × (length l.entries ≡ length l.initial.entries) × (length l.patches ≡ length l.initial.patches)
 
 abbrev pub decreases-loop-at : goal.decreases-loop-at
-decreases-loop-at l = length l.text - l.at
+decreases-loop-at g l = length l.text - l.at

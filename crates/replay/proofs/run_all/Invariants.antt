@@ -5,7 +5,7 @@ use borrow.Author.Rules.{rules}
 use Rattle.replay.proofs.run_all.Given as goal
 
 abbrev pub invariant-loop-left : goal.invariant-loop-left
-invariant-loop-left l =
+invariant-loop-left g l =
     (l.kept ≤ length l.text)
     × (length l.text ≡ length l.initial.text)
     × (length l.d ≡ length l.initial.d)
@@ -13,4 +13,4 @@ invariant-loop-left l =
     × (length l.patches ≡ length l.initial.patches)
 
 abbrev pub decreases-loop-left : goal.decreases-loop-left
-decreases-loop-left l = l.left
+decreases-loop-left g l = l.left
