@@ -1,5 +1,6 @@
 // Each line of the input is a case, in the form of crates/replay_lines. What it lends is filled with a pattern before the call.
 #![tactic(auto)]
+
 ghost use Rattle.std.specs.Prelude.{◌≤◌, length, IfOk};
 
 use load_elf_numbers::load_flat_elf;
@@ -179,7 +180,14 @@ fn run_parts(
     let e = least(case.entries as u64, entries.len());
     let p = least(case.patches as u64, patches.len());
     let rest = case.rest;
-    run_case(rt, &s[0..name], &d[0..n], &entries[0..e], &patches[0..p], rest)
+    run_case(
+        rt,
+        &s[0..name],
+        &d[0..n],
+        &entries[0..e],
+        &patches[0..p],
+        rest,
+    )
 }
 
 fn run_line(
