@@ -1,5 +1,5 @@
 #!/usr/bin/env python3
-"""Brings the names of definitions and lemmas from camel case to snake case, once, after /opt/rattle/port/port.py.
+"""Brings the names of definitions and lemmas from camel case to snake case, once, after the script port.py of the kit.
 
 usage: python3 tools/respell_names.py      at the top of the repository
 
