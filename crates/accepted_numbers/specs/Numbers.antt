@@ -1,10 +1,10 @@
 -- An object that is not refused: its tables' numbers stand for records whose ranges lie inside their sections, and its parts were not refused.
-use Rattle.std.specs.Prelude.{◌≡◌, Bool, cond, ◌||◌, not, eqb, leb}
+use Rattle.model.specs.declared.ProgramSectionError.{ProgramSectionError}
+use Rattle.std.specs.Prelude.{◌≡◌, Bool, cond, ◌||◌, not, eqb, leb, Err, None, Ok, Option, Some}
 use Rattle.std.proofs.Math.Path.{refl, ap}
 use Rattle.std.proofs.Common.{sym, ◌∙◌, inl, inr, ⊎_elim, le_of_suc-le-suc, eq-or-lt_of_le}
 use Rattle.std.proofs.Math.Bool.{true, false}
 use mathlib.Core.List.{List, [], ◌∷◌, map}
-use Rattle.std.proofs.Math.Option.{Option, none, some}
 use Prim.Native.Nat.{ℕ, zero, suc, ◌+◌, ◌-◌, ◌%◌, ◌<◌, ◌≤◌}
 use native.Mathlib.Omega.{arith}
 use borrow.Author.Tests.{eqb-true, ltb-false, ltb-true, not-false}
@@ -16,7 +16,6 @@ use Rattle.model.specs.declared.Endianness.{Endianness}
 use Rattle.object_view.specs.declared.View.{View}
 use Rattle.model.specs.declared.EbpfSectionKind.{EbpfSectionKind as Kind}
 use Rattle.model.specs.declared.ProgramSection.{ProgramSection}
-use Rattle.model.specs.declared.ParsedProgramSection.{ParsedProgramSection}
 use Rattle.model.specs.Bytes.{ascii, or_else, first_in, maybe, is_some, ◌∈◌}
 use Rattle.model.specs.Object.{Reloc, Section, Symbol, Object}
 use Rattle.model.specs.Instruction.{invalid_program_code}
@@ -76,29 +75,29 @@ all-table P key l a = all_of P (table_of key l) (λ x m. all-∈ P x l a (table-
 other-kind : (k m : Kind) (s : Section) → is_kind k (kind_of s) ≡ true → is_kind m k ≡ false → is_kind m (kind_of s) ≡ false
 other-kind k m s e f = rw (kind-is k (kind_of s) e) f
 
-section-fine : (o : Object) (s : Section) → is_kind Kind.BtfExt (kind_of s) ≡ false → section_refusal o s ≡ none → (reloc_refusal s ≡ none) × (kind_refusal o s ≡ none)
+section-fine : (o : Object) (s : Section) → is_kind Kind.BtfExt (kind_of s) ≡ false → section_refusal o s ≡ None → (reloc_refusal s ≡ None) × (kind_refusal o s ≡ None)
 unfolding section_refusal
 section-fine o s e h = or_else-none (reloc_refusal s) (kind_refusal o s) (rw e at h)
 
-program-fine : (o : Object) (s : Section) → is_kind Kind.Program (kind_of s) ≡ true → kind_refusal o s ≡ none → program_refusal o s ≡ none
+program-fine : (o : Object) (s : Section) → is_kind Kind.Program (kind_of s) ≡ true → kind_refusal o s ≡ None → program_refusal o s ≡ None
 unfolding kind_refusal
 program-fine o s e h = rw e at h
 
-maps-fine : (o : Object) (s : Section) → is_kind Kind.Maps (kind_of s) ≡ true → kind_refusal o s ≡ none → maps_refusal o s ≡ none
+maps-fine : (o : Object) (s : Section) → is_kind Kind.Maps (kind_of s) ≡ true → kind_refusal o s ≡ None → maps_refusal o s ≡ None
 unfolding kind_refusal
 maps-fine o s e h = rw (other-kind Kind.Maps Kind.Program s e refl, e) at h
 
-text-fine : (o : Object) (s : Section) → is_kind Kind.Text (kind_of s) ≡ true → kind_refusal o s ≡ none → text_refusal o s ≡ none
+text-fine : (o : Object) (s : Section) → is_kind Kind.Text (kind_of s) ≡ true → kind_refusal o s ≡ None → text_refusal o s ≡ None
 unfolding kind_refusal
 text-fine o s e h = rw (other-kind Kind.Text Kind.Program s e refl, other-kind Kind.Text Kind.Maps s e refl, e) at h
 
-not-unknown : (name : List ℕ) (s : Section) → of_number s (section_number (from_str name)) ≡ none → is_some (program_of name) ≡ true
+not-unknown : (name : List ℕ) (s : Section) → of_number s (section_number (from_str name)) ≡ None → is_some (program_of name) ≡ true
 unfolding from_str
 not-unknown name s h = go (program_of name) h
   where
-    go : (o : Option ProgramSection) → of_number s (section_number (maybe o ParsedProgramSection.InvalidProgramSection ParsedProgramSection.Section)) ≡ none → is_some o ≡ true
-    go none q = not_some _ q
-    go (some v) q = refl
+    go : (o : Option ProgramSection) → of_number s (section_number (maybe o (Err ProgramSectionError.InvalidProgramSection) Ok)) ≡ None → is_some o ≡ true
+    go None q = not_some _ q
+    go (Some v) q = refl
 
 not-past : (d : List ℕ) (at n : ℕ) → passes d at n ≡ false → at + n ≤ length d
 unfolding passes
@@ -117,7 +116,7 @@ has-target (y ∷ rs) e x (inr m) = has-target rs (both_false (not (is_some y.sy
 all-targeted : (r : ℕ → Reloc) (n : ℕ) → untargeted (tab r n) ≡ false → (k : ℕ) → k < n → is_some (r k).symbol ≡ true
 all-targeted r n h k l = has-target (tab r n) h (r k) (tab-∈ r k n l)
 
-module _ (d t : List ℕ) (v : View) (ok : object_refusal (object_in d t v) ≡ none) where
+module _ (d t : List ℕ) (v : View) (ok : object_refusal (object_in d t v) ≡ None) where
   abbrev o : Object
   o = object_in d t v
 
@@ -132,29 +131,29 @@ module _ (d t : List ℕ) (v : View) (ok : object_refusal (object_in d t v) ≡ 
 
   -- ---- the parts
 
-  split : (maybe (first_named (ascii "license") o.sections) none licence_refusal ≡ none)
-      × (or_else (maybe (first_named (ascii "version") o.sections) none (version_refusal o.order)) (first_in (section_refusal o) o.sections) ≡ none)
+  split : (maybe (first_named (ascii "license") o.sections) None licence_refusal ≡ None)
+      × (or_else (maybe (first_named (ascii "version") o.sections) None (version_refusal o.order)) (first_in (section_refusal o) o.sections) ≡ None)
   unfolding object_refusal
-  split = or_else-none (maybe (first_named (ascii "license") o.sections) none licence_refusal) (or_else (maybe (first_named (ascii "version") o.sections) none (version_refusal o.order)) (first_in (section_refusal o) o.sections)) ok
+  split = or_else-none (maybe (first_named (ascii "license") o.sections) None licence_refusal) (or_else (maybe (first_named (ascii "version") o.sections) None (version_refusal o.order)) (first_in (section_refusal o) o.sections)) ok
 
-  rest : (maybe (first_named (ascii "version") o.sections) none (version_refusal o.order) ≡ none) × (first_in (section_refusal o) o.sections ≡ none)
-  rest = or_else-none (maybe (first_named (ascii "version") o.sections) none (version_refusal o.order)) (first_in (section_refusal o) o.sections) split.1
+  rest : (maybe (first_named (ascii "version") o.sections) None (version_refusal o.order) ≡ None) × (first_in (section_refusal o) o.sections ≡ None)
+  rest = or_else-none (maybe (first_named (ascii "version") o.sections) None (version_refusal o.order)) (first_in (section_refusal o) o.sections) split.1
 
-  section-at : (i : ℕ) → i < v.sections → section_refusal o (sec i) ≡ none
+  section-at : (i : ℕ) → i < v.sections → section_refusal o (sec i) ≡ None
   unfolding object_in
   section-at i l = first_in-none (section_refusal o) (sec i) (tab sec v.sections) rest.1 (tab-∈ sec i v.sections l)
 
   module _ (i : ℕ) (l : i < v.sections) where
-    program-at : is_kind Kind.Program (kind_of (sec i)) ≡ true → program_refusal o (sec i) ≡ none
+    program-at : is_kind Kind.Program (kind_of (sec i)) ≡ true → program_refusal o (sec i) ≡ None
     program-at e = program-fine o (sec i) e (section-fine o (sec i) (other-kind Kind.Program Kind.BtfExt (sec i) e refl) (section-at i l)).1
 
-    maps-at : is_kind Kind.Maps (kind_of (sec i)) ≡ true → maps_refusal o (sec i) ≡ none
+    maps-at : is_kind Kind.Maps (kind_of (sec i)) ≡ true → maps_refusal o (sec i) ≡ None
     maps-at e = maps-fine o (sec i) e (section-fine o (sec i) (other-kind Kind.Maps Kind.BtfExt (sec i) e refl) (section-at i l)).1
 
-    text_at : is_kind Kind.Text (kind_of (sec i)) ≡ true → text_refusal o (sec i) ≡ none
+    text_at : is_kind Kind.Text (kind_of (sec i)) ≡ true → text_refusal o (sec i) ≡ None
     text_at e = text-fine o (sec i) e (section-fine o (sec i) (other-kind Kind.Text Kind.BtfExt (sec i) e refl) (section-at i l)).1
 
-    reloc-at : is_kind Kind.BtfExt (kind_of (sec i)) ≡ false → reloc_refusal (sec i) ≡ none
+    reloc-at : is_kind Kind.BtfExt (kind_of (sec i)) ≡ false → reloc_refusal (sec i) ≡ None
     reloc-at e = (section-fine o (sec i) e (section-at i l)).0
 
   -- 8
@@ -223,7 +222,7 @@ module _ (d t : List ℕ) (v : View) (ok : object_refusal (object_in d t v) ≡ 
   -- ---- functions
 
   program-fits : (i j : ℕ) → i < v.sections → is_kind Kind.Program (kind_of (sec i)) ≡ true → j < v.symbols → home_at d t v j ≡ i
-      → program_symbol_refusal (sec i) (at j) ≡ none → FunctionFits d t v j
+      → program_symbol_refusal (sec i) (at j) ≡ None → FunctionFits d t v j
   unfolding program_symbol_refusal program_function function_of invalid_program_code symbol_from
   program-fits i j l e b q f =
       let start = program_offset (sec i) (at j) in
@@ -239,7 +238,7 @@ module _ (d t : List ℕ) (v : View) (ok : object_refusal (object_in d t v) ≡ 
         whole = eqb-true _ _ (not-false _ (refuse-none _ 15 (sec i).index (at j).index 0 z));
       }
 
-  met-fits : (i p j : ℕ) → i < v.sections → is_kind Kind.Program (kind_of (sec i)) ≡ false → number_in order section-list at v.symbols (sec i) p ≡ some j
+  met-fits : (i p j : ℕ) → i < v.sections → is_kind Kind.Program (kind_of (sec i)) ≡ false → number_in order section-list at v.symbols (sec i) p ≡ Some j
       → Met (sec i) p (at j) → home_at d t v j ≡ i → j < v.symbols → FunctionFits d t v j
   unfolding text_function_of function_of
   met-fits i p j l e f m q b =
@@ -250,29 +249,29 @@ module _ (d t : List ℕ) (v : View) (ok : object_refusal (object_in d t v) ≡ 
 
   -- the symbols that a walk which is not refused meets
   walk-fits : (i : ℕ) → i < v.sections → is_kind Kind.Program (kind_of (sec i)) ≡ false
-      → (n p : ℕ) → walk_refusal order section-list at v.symbols (sec i) n p ≡ none
+      → (n p : ℕ) → walk_refusal order section-list at v.symbols (sec i) n p ≡ None
       → All (λ j. home_at d t v j ≡ i → j < v.symbols → FunctionFits d t v j) (walk_numbers order section-list at v.symbols (sec i) n p)
   unfolding walk_numbers
   walk-fits i l e zero p r = tt
   walk-fits i l e (suc n) p r = go (ltb p (length (sec i).bytes)) refl (number_in order section-list at v.symbols (sec i) p) refl (λ j q. walk-fits i l e n (p + (at j).size) q)
     where
       go : (b : Bool) → ltb p (length (sec i).bytes) ≡ b → (m : Option ℕ) → number_in order section-list at v.symbols (sec i) p ≡ m
-          → ((j : ℕ) → walk_refusal order section-list at v.symbols (sec i) n (p + (at j).size) ≡ none
+          → ((j : ℕ) → walk_refusal order section-list at v.symbols (sec i) n (p + (at j).size) ≡ None
           → All (λ k. home_at d t v k ≡ i → k < v.symbols → FunctionFits d t v k) (walk_numbers order section-list at v.symbols (sec i) n (p + (at j).size)))
           → All (λ j. home_at d t v j ≡ i → j < v.symbols → FunctionFits d t v j)
           (cond b (maybe m [] (λ j. j ∷ walk_numbers order section-list at v.symbols (sec i) n (p + (at j).size))) [])
       go false q m f more = tt
-      go true q none f more = tt
-      go true q (some j) f more =
+      go true q None f more = tt
+      go true q (Some j) f more =
           let w = walk-met order section-list at v.symbols (sec i) n p j (ltb-true _ _ q) f in
-          let (u, z) = or_else-none (stop_refusal (sec i) (record { at = p; met = some (at j) })) (walk_refusal order section-list at v.symbols (sec i) n (p + (at j).size)) (sym w ∙ r) in
+          let (u, z) = or_else-none (stop_refusal (sec i) (record { at = p; met = Some (at j) })) (walk_refusal order section-list at v.symbols (sec i) n (p + (at j).size)) (sym w ∙ r) in
           (met-fits i p j l e f (stop-accepted (sec i) p (at j) u), more j z)
 
-  text-refused : (i : ℕ) → text_refusal o (sec i) ≡ none → walk_refusal order section-list at v.symbols (sec i) (length (sec i).bytes) 0 ≡ none
+  text-refused : (i : ℕ) → text_refusal o (sec i) ≡ None → walk_refusal order section-list at v.symbols (sec i) (length (sec i).bytes) 0 ≡ None
   unfolding text_refusal walk_of walk_refusal object_in
   text-refused i e = (or_else-none (shared_refusal (sec i) [] (defined_text o (sec i))) (first_in (stop_refusal (sec i)) (walk_of o (sec i))) e).1
 
-  program-refused : (i : ℕ) → program_refusal o (sec i) ≡ none → first_in (program_symbol_refusal (sec i)) (map at (program_members order section-list at v.symbols (sec i))) ≡ none
+  program-refused : (i : ℕ) → program_refusal o (sec i) ≡ None → first_in (program_symbol_refusal (sec i)) (map at (program_members order section-list at v.symbols (sec i))) ≡ None
   unfolding program_refusal object_in
   program-refused i e =
       let (a, b) = or_else-none (of_number (sec i) (section_number (from_str (sec i).name))) (or_else (of_section 9 (sec i) (is_empty (symbols_of o (sec i)))) (first_in (program_symbol_refusal (sec i)) (program_symbols o (sec i)))) e in
@@ -283,10 +282,10 @@ module _ (d t : List ℕ) (v : View) (ok : object_refusal (object_in d t v) ≡ 
   unfolding text_order text_members
   text-below i = all-sorted (λ j. j < v.symbols) (by_address (λ j. (at j).address)) _ (all-kept (λ j. j < v.symbols) _ (members order section-list at v.symbols (sec i)) (members-below i))
 
-  found_below : (i p j : ℕ) → number_in order section-list at v.symbols (sec i) p ≡ some j → j < v.symbols
+  found_below : (i p j : ℕ) → number_in order section-list at v.symbols (sec i) p ≡ Some j → j < v.symbols
   found_below i p j e = go (leb ((sec i).address + p) top) e
     where
-      go : (b : Bool) → cond b (number_at order section-list at v.symbols (sec i) ((sec i).address + p)) none ≡ some j → j < v.symbols
+      go : (b : Bool) → cond b (number_at order section-list at v.symbols (sec i) ((sec i).address + p)) None ≡ Some j → j < v.symbols
       go true q = all_found (λ k. k < v.symbols) (λ k. eqb (at k).address ((sec i).address + p)) _ j (text-below i) q
       go false q = not_some j (sym q)
 
@@ -299,8 +298,8 @@ module _ (d t : List ℕ) (v : View) (ok : object_refusal (object_in d t v) ≡ 
           → ((j : ℕ) → All (λ k. k < v.symbols) (walk_numbers order section-list at v.symbols (sec i) n (p + (at j).size)))
           → All (λ k. k < v.symbols) (cond b (maybe m [] (λ j. j ∷ walk_numbers order section-list at v.symbols (sec i) n (p + (at j).size))) [])
       go false m f r = tt
-      go true none f r = tt
-      go true (some j) f r = (found_below i p j f, r j)
+      go true None f r = tt
+      go true (Some j) f r = (found_below i p j f, r j)
 
   module _ (r : Readable d t v) where
     abbrev rise : IndexesRising order sec v.sections at v.symbols
@@ -344,7 +343,7 @@ module _ (d t : List ℕ) (v : View) (ok : object_refusal (object_in d t v) ≡ 
 
     -- ---- maps
 
-    map-fits : (i j : ℕ) → i < v.sections → j < v.symbols → home_at d t v j ≡ i → map_symbol_refusal (sec i) (at j) ≡ none → MapFits d t v (map_number_of v.sections (MapSource.Symbol j))
+    map-fits : (i j : ℕ) → i < v.sections → j < v.symbols → home_at d t v j ≡ i → map_symbol_refusal (sec i) (at j) ≡ None → MapFits d t v (map_number_of v.sections (MapSource.Symbol j))
     unfolding map_symbol_refusal
     map-fits i j l b q f =
         let (u, z) = or_else-none (of_symbol 10 (sec i) (at j) (passes (sec i).bytes (at j).address (at j).size)) (of_symbol 16 (sec i) (at j) (invalid_map_definition (at j).size (record_of (sec i) (at j)))) f in
@@ -352,7 +351,7 @@ module _ (d t : List ℕ) (v : View) (ok : object_refusal (object_in d t v) ≡ 
         let w : (symbol_at d t v j).address + (symbol_at d t v j).size ≤ (section_at d t v i).bytes.length = rw (data-length i, (by-record j).0, (by-record j).1) at p in
         rw (number_source v.sections (MapSource.Symbol j) tt) (record { symbol = b; home = rw q l; within = rw q w })
 
-    maps-refused : (i : ℕ) → maps_refusal o (sec i) ≡ none → first_in (map_symbol_refusal (sec i)) (map at (members order section-list at v.symbols (sec i))) ≡ none
+    maps-refused : (i : ℕ) → maps_refusal o (sec i) ≡ None → first_in (map_symbol_refusal (sec i)) (map at (members order section-list at v.symbols (sec i))) ≡ None
     unfolding maps_refusal object_in
     maps-refused i e =
         let (a, b) = or_else-none (of_section 9 (sec i) (is_empty (symbols_of o (sec i)))) (first_in (map_symbol_refusal (sec i)) (symbols_of o (sec i))) e in

@@ -9,10 +9,7 @@ ghost use Rattle.model.specs.AnswerNumbers.{order_number, stated_bit, stated_ver
 
 use load::load;
 use load_elf::load_elf;
-use model::{
-    Answer, Endianness, Found, Function, KernelVersion, LoadAnswer, Refusal, SectionIndex, Summary,
-    SymbolIndex,
-};
+use model::{Endianness, Function, LoadAnswer, Refusal, SectionIndex, Summary, SymbolIndex};
 use rows_functions::find;
 
 fn order_number(o: Endianness) -> u32
@@ -24,22 +21,16 @@ fn order_number(o: Endianness) -> u32
     }
 }
 
-fn stated_bit(v: KernelVersion) -> u32
+fn stated_bit(v: Option<u32>) -> u32
     ensures { result ≡ stated_bit v }
 {
-    match v {
-        KernelVersion::Any => 0,
-        KernelVersion::Version(_) => 1,
-    }
+    u32::from(v.is_some())
 }
 
-fn stated_version(v: KernelVersion) -> u32
+fn stated_version(v: Option<u32>) -> u32
     ensures { result ≡ stated_version v }
 {
-    match v {
-        KernelVersion::Any => 0,
-        KernelVersion::Version(n) => n,
-    }
+    v.unwrap_or(0)
 }
 
 fn accepted(s: Summary) -> LoadAnswer
@@ -88,12 +79,12 @@ fn refused(r: Refusal) -> LoadAnswer
     }
 }
 
-fn answer_of(a: Answer) -> LoadAnswer
+fn answer_of(a: Result<Summary, Refusal>) -> LoadAnswer
     ensures { result ≡ answer_of a }
 {
     match a {
-        Answer::Accepted(s) => accepted(s),
-        Answer::Refused(r) => refused(r),
+        Ok(s) => accepted(s),
+        Err(r) => refused(r),
     }
 }
 
@@ -170,12 +161,12 @@ pub extern "C" fn buncoyew_load_elf(
     *answer = answer_of(loaded);
 }
 
-fn row_number(f: Found) -> u64
+fn row_number(f: Option<usize>) -> u64
     ensures { result ≡ row_number f }
 {
     match f {
-        Found::At(i) => i as u64,
-        Found::Nothing => 18446744073709551615,
+        Some(i) => i as u64,
+        None => 18446744073709551615,
     }
 }
 

@@ -1,8 +1,7 @@
 -- The tables of numbers that a load holds, and the places of the parts of the catalogue's bytes.
-use Rattle.std.specs.Prelude.{◌≡◌, refl, ℕ, ◌+◌, ◌-◌, ◌^◌, ◌<◌, ◌≤◌, length, get_or, take, drop}
+use Rattle.std.specs.Prelude.{◌≡◌, refl, ℕ, ◌+◌, ◌-◌, ◌^◌, ◌<◌, ◌≤◌, length, get_or, take, drop, None}
 use Rattle.std.proofs.Common.{sym, ap, ◌∙◌, zero-add, arith, length-append, length-drop}
 use mathlib.Core.List.{List, ◌++◌, append_assoc}
-use Rattle.std.proofs.Math.Option.{none}
 use Rattle.object_view.specs.declared.View.{View}
 use Rattle.model.specs.Bytes.{each}
 use Rattle.model.specs.Catalogue.{Catalogue}
@@ -111,7 +110,7 @@ laid_more {t} {a} {l} {out} p x next b e room f =
       held = f ∙ ap (λ (o : List ℕ). take a o ++ (x ++ drop b o)) p.held ∙ (rw q at k);
     }
 
-module _ (d t : List ℕ) (v : View) (r : Readable d t v) (ok : object_refusal (object_in d t v) ≡ none) (n : Counts) (s p f m : List ℕ) (held : Held d t v n s p f m) where
+module _ (d t : List ℕ) (v : View) (r : Readable d t v) (ok : object_refusal (object_in d t v) ≡ None) (n : Counts) (s p f m : List ℕ) (held : Held d t v n s p f m) where
   -- ---- what the numbers stand for is there
 
   functions-fitting : All (FunctionFits d t v) (take n.functions f)

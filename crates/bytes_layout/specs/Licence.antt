@@ -1,8 +1,7 @@
 -- The licence's bytes, by where it stands.
 use Rattle.std.proofs.Math.Path.{◌≡◌, refl}
 use Rattle.std.proofs.Common.{sym, ap, ◌∙◌, le_trans}
-use Rattle.std.specs.Prelude.{List, ℕ, ◌+◌, ◌-◌, ◌<◌, ◌≤◌}
-use Rattle.std.proofs.Math.Option.{Option, none, some}
+use Rattle.std.specs.Prelude.{List, ℕ, ◌+◌, ◌-◌, ◌<◌, ◌≤◌, None, Option, Some}
 use native.Mathlib.Omega.{arith}
 use Rattle.std.proofs.Math.ListN.{length}
 use Rattle.object_view.specs.declared.View.{View}
@@ -40,8 +39,8 @@ module _ (d t : List ℕ) (v : View) where
     licence-placed r = go (number_named d t v (ascii "license")) refl e
       where
         go : (o : Option ℕ) → number_named d t v (ascii "license") ≡ o → LicenseAt.Bytes at n ≡ maybe o LicenseAt.Gpl (license_in d t v) → (place (gap_of v) (at + n) ≤ length d) × (n ≤ 16777216)
-        go none f g = let z : ◌≡◌ {A = ℕ} 0 1 = cc in absurd (omega arith)
-        go (some i) f g =
+        go None f g = let z : ◌≡◌ {A = ℕ} 0 1 = cc in absurd (omega arith)
+        go (Some i) f g =
             let p : at ≡ v.at.bytes + (section_at d t v i).bytes.at = cc in
             let q : n ≡ (section_at d t v i).bytes.length - 1 = cc in
             let l : i < v.sections = number-below d t v (ascii "license") i f in

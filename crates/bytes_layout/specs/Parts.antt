@@ -1,9 +1,8 @@
 -- The parts of a lent catalogue's bytes, by the numbers of its tables.
-use Rattle.std.specs.Prelude.{◌≡◌}
+use Rattle.std.specs.Prelude.{◌≡◌, None}
 use Rattle.std.proofs.Math.Path.{refl, sym, ap}
 use Rattle.std.proofs.Common.{◌∙◌}
 use mathlib.Core.List.{List}
-use Rattle.std.proofs.Math.Option.{none}
 use Prim.Native.Nat.{ℕ}
 use Rattle.object_view.specs.declared.View.{View}
 use Rattle.model.specs.Bytes.{each}
@@ -26,7 +25,7 @@ module _ (d t : List ℕ) (v : View) where
   abbrev pub catalogue : Catalogue
   catalogue = catalogue_of (object_in d t v)
 
-  module _ (r : Readable d t v) (ok : object_refusal (object_in d t v) ≡ none) where
+  module _ (r : Readable d t v) (ok : object_refusal (object_in d t v) ≡ None) where
     pub licence-is : catalogue.licence ≡ licence_of (object_in d t v)
     unfolding catalogue_of
     licence-is = refl

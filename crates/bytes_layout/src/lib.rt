@@ -1,8 +1,7 @@
 // The bytes of a lent catalogue: the places of its parts, and the parts laid one after the other.
 #![tactic(auto)]
 
-ghost use Rattle.std.specs.Prelude.{◌≡◌, ◌++◌, ◌+◌, ◌*◌, ◌≤◌, length, take, drop};
-ghost use Rattle.std.proofs.Math.Option.{none};
+ghost use Rattle.std.specs.Prelude.{◌≡◌, ◌++◌, ◌+◌, ◌*◌, ◌≤◌, length, take, drop, None};
 ghost use Rattle.model.specs.Bytes.{each};
 ghost use Rattle.model.specs.Contents.{licence_of};
 ghost use Rattle.object.specs.View.{object_in};
@@ -16,7 +15,6 @@ ghost use Rattle.bytes_layout.specs.Held.{Held, At};
 ghost use Rattle.bytes_layout.specs.Listed.{part_of, PartFits, PartListed};
 
 use bytes_names::{Piece, copy_stream};
-use lists::copy8;
 use object_view::View;
 use parse_first::LicenseAt;
 use parse_sections::Counts;
@@ -59,10 +57,8 @@ fn total(d: &[u8], t: &[u32], v: View, part: Part, numbers: &[u32], n: usize) ->
     ensures { (result ≡ length (each (part_of part d.now t.now v) (take n numbers.now))) × (result ≤ 69632 * 16777216) }
 {
     let mut sum: usize = 0;
-    let mut k: usize = 0;
-    while k < n {
+    for k in 0..n {
         sum += part_length(d, t, v, part, numbers[k]);
-        k += 1;
     }
     sum
 }
@@ -97,10 +93,8 @@ fn put_part(
         ≡ take at out.old ++ (each (part_of part d.now t.now v) (take n numbers.now) ++ drop result out.old)) }
 {
     let mut o = at;
-    let mut k: usize = 0;
-    while k < n {
+    for k in 0..n {
         o = put_one(d, t, v, part, numbers[k], out, o);
-        k += 1;
     }
     o
 }
@@ -122,7 +116,7 @@ fn put_license(d: &[u8], t: &[u32], v: View, license: LicenseAt, out: &mut [u8])
 {
     match license {
         LicenseAt::Gpl => {
-            copy8(out, b"GPL");
+            out[..3].copy_from_slice(b"GPL");
             3
         }
         LicenseAt::Bytes(at, n) => {
@@ -143,12 +137,11 @@ pub fn layout(
     maps: &[u32],
 ) -> Places
     requires { Readable d.now t.now v
-        × (object_refusal (object_in d.now t.now v) ≡ none)
+        × (object_refusal (object_in d.now t.now v) ≡ None)
         × Held d.now t.now v n sections.now programs.now functions.now maps.now }
     ensures { At (catalogue d.now t.now v) result }
 {
-    let license = n.license;
-    let sections_at = license_length(license);
+    let sections_at = license_length(n.license);
     let section_name = Part::Name(Piece::SectionName);
     let symbol_name = Part::Name(Piece::SymbolName);
     let map_name = Part::Name(Piece::MapName);
@@ -162,10 +155,10 @@ pub fn layout(
         sections: sections_at,
         programs: programs_at,
         functions: functions_at,
-        code: code,
+        code,
         maps: maps_at,
-        own: own,
-        end: end,
+        own,
+        end,
     }
 }
 
@@ -182,15 +175,14 @@ pub fn put(
     out: &mut [u8],
 )
     requires { Readable d.now t.now v
-        × (object_refusal (object_in d.now t.now v) ≡ none)
+        × (object_refusal (object_in d.now t.now v) ≡ None)
         × Held d.now t.now v n sections.now programs.now functions.now maps.now
         × (length (bytes_of (catalogue d.now t.now v)) ≤ length out.old) }
     ensures { out.new
         ≡ bytes_of (catalogue d.now t.now v)
         ++ drop (length (bytes_of (catalogue d.now t.now v))) out.old }
 {
-    let license = n.license;
-    let a = put_license(d, t, v, license, out);
+    let a = put_license(d, t, v, n.license, out);
     let section_name = Part::Name(Piece::SectionName);
     let symbol_name = Part::Name(Piece::SymbolName);
     let map_name = Part::Name(Piece::MapName);

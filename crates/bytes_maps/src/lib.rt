@@ -6,13 +6,11 @@ ghost use Rattle.records.specs.Readable.{Readable};
 ghost use Rattle.bytes_maps.specs.Own.{own_of, own_bytes};
 
 use bytes_names::copy_stream;
-use lists::zero8;
 use model::Extent;
 use object::kind_of;
 use object_view::View;
 use records::{MapSource, data_place, gap, map_source, section};
 use section_kind::is_bss;
-use stream::size;
 
 // What a map's own bytes are: zeros, or a range of the data.
 #[derive(Clone, Copy)]
@@ -32,8 +30,7 @@ fn own_of(d: &[u8], t: &[u32], v: View, n: u32) -> Own
             if is_bss(kind_of(d, t, v, s)) {
                 Own::Zeros(s.size as usize)
             } else {
-                let bytes = s.bytes;
-                Own::Bytes(bytes)
+                Own::Bytes(s.bytes)
             }
         }
         MapSource::Symbol(_) => Own::Nothing,
@@ -47,7 +44,7 @@ pub fn own_length(d: &[u8], t: &[u32], v: View, n: u32) -> usize
     match own_of(d, t, v, n) {
         Own::Nothing => 0,
         Own::Zeros(len) => len,
-        Own::Bytes(e) => size(e.length),
+        Own::Bytes(e) => e.length as usize,
     }
 }
 
@@ -61,11 +58,11 @@ pub fn put_own(d: &[u8], t: &[u32], v: View, n: u32, out: &mut [u8], at: usize) 
         Own::Nothing => at,
         Own::Zeros(len) => {
             let end = at + len;
-            zero8(&mut out[at..end]);
+            out[at..end].fill(0);
             end
         }
         Own::Bytes(e) => {
-            let len = size(e.length);
+            let len = e.length as usize;
             copy_stream(d, gap(v), data_place(v, e), len, out, at);
             at + len
         }

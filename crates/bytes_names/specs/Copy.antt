@@ -1,6 +1,6 @@
 -- A run of the stream, copied a block at a time.
 use Rattle.std.specs.Prelude.{◌≡◌, List, ◌++◌, ℕ, ◌+◌, ◌-◌, ◌≤◌, length, take, drop}
-use Rattle.std.proofs.Common.{sym, ap, ◌∙◌, append-nil, arith, length-take, length-drop, drop_of_length-le, take_at, drop-drop}
+use Rattle.std.proofs.Common.{sym, ap, ◌∙◌, arith, length-take, length-drop, take_at, drop-drop}
 use Rattle.lists.specs.Part.{length_part}
 use Rattle.model.specs.Bytes.{part}
 use Rattle.stream.specs.declared.Run.{Run}
@@ -18,23 +18,21 @@ turn-bytes d gap q n r m t =
 
 -- m bytes of d from i on are copied over those of out from o on
 module _ (d out : List ℕ) (i o m : ℕ) (inside : i + m ≤ length d) (room : o + m ≤ length out) where
-  pub part-fits : length (take (i + m - i) (drop i d)) ≤ length (take (o + m - o) (drop o out))
+  pub part-fits : length (take (o + m - o) (drop o out)) ≡ length (take (i + m - i) (drop i d))
   part-fits = simp (length-take, length-drop) (omega arith)
 
-  part-copied : (ys : List ℕ) → ys ≡ take (i + m - i) (drop i d) ++ drop (length (take (i + m - i) (drop i d))) (take (o + m - o) (drop o out))
+  part-copied : (ys : List ℕ) → ys ≡ take (i + m - i) (drop i d)
       → take o out ++ (ys ++ drop (o + m - o) (drop o out)) ≡ take o out ++ (part d i m ++ drop (o + m) out)
   part-copied ys e =
       let f : i + m - i ≡ m = omega arith in
       let g : o + m - o ≡ m = omega arith in
-      let l : length (part out o m) ≤ m = rw length-take (omega arith) in
-      let over : ys ≡ part d i m = e ∙ rw (f, g, length_part d i m inside, drop_of_length-le (part out o m) l, append-nil) in
-      rw (over, g, drop-drop m o out)
+      rw (e, f, g, drop-drop m o out)
 
 -- one turn more, of a walk that has copied k bytes from p on to t, from `at` on
 pub copy_more : (d : List ℕ) (gap p k n m : ℕ) (r : Run) (at o : ℕ) (t out ys : List ℕ) → Turn d gap (p + k) n r m → o ≡ at + k → o + m ≤ length t
     → length out ≡ length t
     → out ≡ take at t ++ (bytes_at d gap p k ++ drop o t)
-    → ys ≡ take (r.at + m - r.at) (drop r.at d) ++ drop (length (take (r.at + m - r.at) (drop r.at d))) (take (o + m - o) (drop o out))
+    → ys ≡ take (r.at + m - r.at) (drop r.at d)
     → take o out ++ (ys ++ drop (o + m - o) (drop o out)) ≡ take at t ++ (bytes_at d gap p (k + m) ++ drop (o + m) t)
 copy_more d gap p k n m r at o t out ys turn e room same before copied =
     let lk : o ≡ at + length (bytes_at d gap p k) = rw length-bytes e in

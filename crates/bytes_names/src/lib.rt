@@ -1,15 +1,14 @@
 // The bytes of a lent catalogue: copies of runs of the stream, and the names of records.
 #![tactic(auto)]
 
-ghost use Rattle.std.specs.Prelude.{◌≡◌, ◌++◌, ◌+◌, ◌^◌, ◌<◌, ◌≤◌, min, length, take, drop};
+ghost use Rattle.std.specs.Prelude.{◌≡◌, ◌++◌, ◌+◌, ◌^◌, ◌<◌, ◌≤◌, length, take, drop};
 ghost use Rattle.stream.specs.Stream.{bytes_at, place as place_of};
 ghost use Rattle.bytes_names.specs.Pieces.{extent_of, piece_of, PieceInside};
 
-use lists::copy8;
 use model::Extent;
 use object_view::View;
 use records::{gap, map_name, name_at, section_name, symbol_name};
-use stream::{Run, size};
+use stream::Stream;
 
 // Which name a number stands for: that of a section, of a symbol, or of a map.
 #[derive(Clone, Copy)]
@@ -19,33 +18,30 @@ pub enum Piece {
     MapName,
 }
 
-fn least(x: usize, y: usize) -> usize
-    ensures { result ≡ min x y }
-{
-    if x < y { x } else { y }
-}
-
 // n bytes of the stream from p on into out from `at` on, a block at a time.
 pub fn copy_stream(d: &[u8], gap: usize, p: usize, n: usize, out: &mut [u8], at: usize)
     requires { (gap ≤ 4) × (p + n < 2 ^ 62) × (place_of gap (p + n) ≤ length d.now) × (at + n ≤ length out.old) }
     ensures { out.new ≡ take at out.old ++ (bytes_at d.now gap p n ++ drop (at + n) out.old) }
 {
-    let mut run = Run::new(gap, p);
+    let stream = Stream { bytes: d, gap };
+    let mut run = stream.run(p);
     let mut left = n;
     let mut o = at;
+    // A turn is as wide as its block allows, so no range counts the turns.
     while 0 < left {
         let i = run.at;
-        let m = least(left, run.room);
+        let m = left.min(run.room);
         let e = i + m;
         let b = o + m;
-        copy8(&mut out[o..b], &d[i..e]);
-        run = run.skip(gap, m);
+        out[o..b].copy_from_slice(&d[i..e]);
+        run = stream.skip(run, m);
         left -= m;
         o = b;
     }
 }
 
 // The range of the name that number j stands for.
+#[tactic(auto, unfolding(crate::specs::Pieces::extent_of))]
 pub fn extent(d: &[u8], t: &[u32], v: View, which: Piece, j: u32) -> Extent
     ensures { result ≡ extent_of which d.now t.now v j }
 {
@@ -61,7 +57,7 @@ pub fn name_length(d: &[u8], t: &[u32], v: View, which: Piece, j: u32) -> usize
     ensures { (result ≡ length (piece_of which d.now t.now v j)) × (result < 2 ^ 32) }
 {
     let e = extent(d, t, v, which, j);
-    size(e.length)
+    e.length as usize
 }
 
 // That name into out, from `at` on; where it ends.
@@ -79,7 +75,7 @@ pub fn put_name(
         × (out.new ≡ take at out.old ++ (piece_of which d.now t.now v j ++ drop result out.old)) }
 {
     let e = extent(d, t, v, which, j);
-    let len = size(e.length);
+    let len = e.length as usize;
     copy_stream(d, gap(v), name_at(v, e), len, out, at);
     at + len
 }

@@ -1,10 +1,9 @@
 -- An object whose sections and symbols are given by number: the symbols of a section are those of some numbers.
-use Rattle.std.specs.Prelude.{◌≡◌, Bool, ◌&&◌, ℕ, zero, suc, ◌+◌, ◌<◌, ◌≤◌, leb}
+use Rattle.std.specs.Prelude.{◌≡◌, Bool, ◌&&◌, ℕ, zero, suc, ◌+◌, ◌<◌, ◌≤◌, leb, None, Option, Some}
 use Rattle.std.proofs.Math.Path.{refl, ap}
 use Rattle.std.proofs.Common.{sym, ◌∙◌, arith}
 use Rattle.std.proofs.Math.Bool.{true, false, cond}
 use mathlib.Core.List.{List, [], ◌∷◌, ◌++◌, map}
-use Rattle.std.proofs.Math.Option.{Option, none, some}
 use Rattle.std.proofs.Math.Dec.{eqb}
 use Rattle.lists.specs.Tab.{tab}
 use Rattle.model.specs.declared.Endianness.{Endianness}
@@ -102,33 +101,33 @@ module _ (e : Endianness) (ss : List Section) (at : ℕ → Symbol) (Y : ℕ) wh
   text_order s = sorted (by_address (λ j. (at j).address)) (text_members s)
 
   -- number 11
-  pub shared-by : (s : Section) → shared_refusal s [] (defined_text object_by s) ≡ maybe (least_again (λ j. (at j).address) (text_order s)) none (λ j. of_symbol 11 s (at j) true)
+  pub shared-by : (s : Section) → shared_refusal s [] (defined_text object_by s) ≡ maybe (least_again (λ j. (at j).address) (text_order s)) None (λ j. of_symbol 11 s (at j) true)
   unfolding text_order
   shared-by s =
       ap (shared_refusal s []) (text-by s)
       ∙ shared-is s at [] (text_members s)
-      ∙ ap (λ r. maybe r none (λ j. of_symbol 11 s (at j) true)) (repeat-sorted (λ j. (at j).address) 0 (text_members s) (text-rises s))
+      ∙ ap (λ r. maybe r None (λ j. of_symbol 11 s (at j) true)) (repeat-sorted (λ j. (at j).address) 0 (text_members s) (text-rises s))
 
   -- the symbol at a text address, by number
   abbrev pub number_at : Section → ℕ → Option ℕ
   number_at s a = find (λ j. eqb (at j).address a) (text_order s)
 
-  find-map : (p : Symbol → Bool) (l : List ℕ) → find p (map at l) ≡ maybe (find (λ j. p (at j)) l) none (λ j. some (at j))
+  find-map : (p : Symbol → Bool) (l : List ℕ) → find p (map at l) ≡ maybe (find (λ j. p (at j)) l) None (λ j. Some (at j))
   unfolding find first_in
   find-map p [] = refl
   find-map p (j ∷ l) = go (p (at j)) (find-map p l)
     where
-      go : (b : Bool) → first_in (λ y. cond (p y) (some y) none) (map at l) ≡ maybe (first_in (λ i. cond (p (at i)) (some i) none) l) none (λ i. some (at i))
-          → or_else (cond b (some (at j)) none) (first_in (λ y. cond (p y) (some y) none) (map at l))
-          ≡ maybe (or_else (cond b (some j) none) (first_in (λ i. cond (p (at i)) (some i) none) l)) none (λ i. some (at i))
+      go : (b : Bool) → first_in (λ y. cond (p y) (Some y) None) (map at l) ≡ maybe (first_in (λ i. cond (p (at i)) (Some i) None) l) None (λ i. Some (at i))
+          → or_else (cond b (Some (at j)) None) (first_in (λ y. cond (p y) (Some y) None) (map at l))
+          ≡ maybe (or_else (cond b (Some j) None) (first_in (λ i. cond (p (at i)) (Some i) None) l)) None (λ i. Some (at i))
       go true h = refl
       go false h = h
 
-  pub symbol-at-by : (s : Section) (o : ℕ) → text_symbol_at s (defined_text object_by s) o ≡ cond (leb (s.address + o) top) (maybe (number_at s (s.address + o)) none (λ j. some (at j))) none
+  pub symbol-at-by : (s : Section) (o : ℕ) → text_symbol_at s (defined_text object_by s) o ≡ cond (leb (s.address + o) top) (maybe (number_at s (s.address + o)) None (λ j. Some (at j))) None
   unfolding text_symbol_at text_order
   symbol-at-by s o =
-      ap (λ f. cond (leb (s.address + o) top) f none)
+      ap (λ f. cond (leb (s.address + o) top) f None)
       (ap (find (λ y. eqb y.address (s.address + o))) (text-by s)
       ∙ find-map (λ y. eqb y.address (s.address + o)) (text_members s)
-      ∙ ap (λ r. maybe r none (λ j. some (at j)))
+      ∙ ap (λ r. maybe r None (λ j. Some (at j)))
       (sym (find-sorted (by_address (λ j. (at j).address)) (λ j. eqb (at j).address (s.address + o)) (alike (λ j. (at j).address) (s.address + o)) (text_members s))))

@@ -1,10 +1,9 @@
 -- The function table and the map table as tables of numbers.
-use Rattle.std.specs.Prelude.{◌≡◌, Bool, leb, ltb, length}
+use Rattle.std.specs.Prelude.{◌≡◌, Bool, leb, ltb, length, None, Option, Some}
 use Rattle.std.proofs.Math.Path.{refl, ap}
 use Rattle.std.proofs.Common.{sym, ◌∙◌, inl, inr, arith, eqb-true}
 use Rattle.std.proofs.Math.Bool.{true, false, cond}
 use mathlib.Core.List.{List, [], ◌∷◌, ◌++◌, map}
-use Rattle.std.proofs.Math.Option.{Option, none, some}
 use Prim.Native.Nat.{ℕ, zero, suc, ◌+◌, ◌<◌}
 use Rattle.std.proofs.Math.Dec.{eqb}
 use Rattle.lists.specs.Tab.{tab, rows}
@@ -46,13 +45,13 @@ module _ (P : ℕ → Type 0) where
   all-sorted le [] a = tt
   all-sorted le (x ∷ l) a = all_insert le x (sorted le l) a.0 (all-sorted le l a.1)
 
-  pub all_found : (p : ℕ → Bool) (l : List ℕ) (j : ℕ) → All P l → find p l ≡ some j → P j
+  pub all_found : (p : ℕ → Bool) (l : List ℕ) (j : ℕ) → All P l → find p l ≡ Some j → P j
   unfolding find first_in
   all_found p [] j a h = not_some j (sym h)
   all_found p (x ∷ l) j a h = go (p x) h (all_found p l j a.1)
     where
-      go : (b : Bool) → or_else (cond b (some x) none) (first_in (λ y. cond (p y) (some y) none) l) ≡ some j
-          → (first_in (λ y. cond (p y) (some y) none) l ≡ some j → P j) → P j
+      go : (b : Bool) → or_else (cond b (Some x) None) (first_in (λ y. cond (p y) (Some y) None) l) ≡ Some j
+          → (first_in (λ y. cond (p y) (Some y) None) l ≡ Some j → P j) → P j
       go true q r = let e : x ≡ j = cc in rw (← e) a.0
       go false q r = r q
 
@@ -101,7 +100,7 @@ module _ (e : Endianness) (sec : ℕ → Section) (S : ℕ) (at : ℕ → Symbol
   inside-walk rise i l zero o = tt
   inside-walk rise i l (suc n) o = go (ltb o (length (sec i).bytes)) (number_in e (tab sec S) at Y (sec i) o) refl (λ j. inside-walk rise i l n (o + (at j).size))
     where
-      met : (b : Bool) (j : ℕ) → cond b (number_at e (tab sec S) at Y (sec i) ((sec i).address + o)) none ≡ some j → Inside i j
+      met : (b : Bool) (j : ℕ) → cond b (number_at e (tab sec S) at Y (sec i) ((sec i).address + o)) None ≡ Some j → Inside i j
       met true j q = all_found (Inside i) (λ k. eqb (at k).address ((sec i).address + o)) _ j (inside-text rise i l) q
       met false j q = not_some j (sym q)
 
@@ -109,8 +108,8 @@ module _ (e : Endianness) (sec : ℕ → Section) (S : ℕ) (at : ℕ → Symbol
           → ((j : ℕ) → All (Inside i) (walk_numbers e (tab sec S) at Y (sec i) n (o + (at j).size)))
           → All (Inside i) (cond b (maybe m [] (λ j. j ∷ walk_numbers e (tab sec S) at Y (sec i) n (o + (at j).size))) [])
       go false m q r = tt
-      go true none q r = tt
-      go true (some j) q r = (met (leb ((sec i).address + o) top) j q, r j)
+      go true None q r = tt
+      go true (Some j) q r = (met (leb ((sec i).address + o) top) j q, r j)
 
   -- ---- functions
 
@@ -130,8 +129,8 @@ module _ (e : Endianness) (sec : ℕ → Section) (S : ℕ) (at : ℕ → Symbol
   lies-number i j h = go (at j).section h
     where
       go : (o : Option SectionIndex) → lies_in (sec i).index o ≡ true → (sec i).index.0 ≡ maybe o 4294967295 (λ k. k.0)
-      go none q = true-not-false (sym q)
-      go (some k) q = eqb-true _ _ q
+      go None q = true-not-false (sym q)
+      go (Some k) q = eqb-true _ _ q
 
   function-key : (i j : ℕ) → function_key (function_of i j) ≡ (sec i).index.0 ∷ (at j).address ∷ []
   unfolding program_function text_function_of function_at

@@ -1,7 +1,6 @@
 -- A group of record numbers, the part of a list from one index to another: loops over it that look for a first answer, or that collect.
-use Rattle.std.specs.Prelude.{◌≡◌, refl, Bool, true, false, cond, List, [], ◌∷◌, ◌++◌, map, ℕ, zero, suc, ◌+◌, ◌-◌, ◌<◌, ◌≤◌, length, get_or, take, drop, set}
+use Rattle.std.specs.Prelude.{◌≡◌, refl, Bool, true, false, cond, List, [], ◌∷◌, ◌++◌, map, ℕ, zero, suc, ◌+◌, ◌-◌, ◌<◌, ◌≤◌, length, get_or, take, drop, set, None, Option, Some}
 use Rattle.std.proofs.Common.{ap, ◌∙◌, append-nil, not-suc-le-zero, le_of_suc-le-suc, arith, length-append, get_or-take, get_or-drop}
-use Rattle.std.proofs.Math.Option.{Option, none, some}
 use Rattle.std.proofs.Math.Seq.{slice, length-slice}
 use Rattle.lists.specs.Tab.{tab}
 use Rattle.lists.specs.Slice.{slice-next, slice-none, slice-more, put_next, put-none}
@@ -13,28 +12,28 @@ use Rattle.catalogue_laws.specs.FunctionsMaps.{all_append}
 -- ---- a first answer
 
 module _ {B : Type 0} (g : ℕ → Option B) (i t : ℕ) (l : List ℕ) where
-  -- none at i
-  pub first_next : i < t → t ≤ length l → g (get_or l i 0) ≡ none → first_in g (slice i t l) ≡ first_in g (slice (i + 1) t l)
+  -- None at i
+  pub first_next : i < t → t ≤ length l → g (get_or l i 0) ≡ None → first_in g (slice i t l) ≡ first_in g (slice (i + 1) t l)
   unfolding first_in
   first_next h k e = rw (slice-next i t l 0 h k, e)
 
-  pub first_found : (b : B) → i < t → t ≤ length l → g (get_or l i 0) ≡ some b → first_in g (slice i t l) ≡ some b
+  pub first_found : (b : B) → i < t → t ≤ length l → g (get_or l i 0) ≡ Some b → first_in g (slice i t l) ≡ Some b
   unfolding first_in
   first_found b h k e = rw (slice-next i t l 0 h k, e)
 
-  pub first-end : t ≤ i → first_in g (slice i t l) ≡ none
+  pub first-end : t ≤ i → first_in g (slice i t l) ≡ None
   unfolding first_in
   first-end h = rw (slice-none i t l h)
 
 -- of those that pass a test
 pub first-kept : {A B : Type 0} (f : A → Option B) (at : ℕ → A) (p : ℕ → Bool) (l : List ℕ)
-    → first_in f (map at (keep p l)) ≡ first_in (λ j. cond (p j) (f (at j)) none) l
+    → first_in f (map at (keep p l)) ≡ first_in (λ j. cond (p j) (f (at j)) None) l
 unfolding keep first_in
 first-kept f at p [] = refl
 first-kept f at p (j ∷ l) = go (p j) (first-kept f at p l)
   where
-    go : (b : Bool) → first_in f (map at (keep p l)) ≡ first_in (λ j. cond (p j) (f (at j)) none) l
-        → first_in f (map at (push b j (keep p l))) ≡ or_else (cond b (f (at j)) none) (first_in (λ j. cond (p j) (f (at j)) none) l)
+    go : (b : Bool) → first_in f (map at (keep p l)) ≡ first_in (λ j. cond (p j) (f (at j)) None) l
+        → first_in f (map at (push b j (keep p l))) ≡ or_else (cond b (f (at j)) None) (first_in (λ j. cond (p j) (f (at j)) None) l)
     go true h = ap (or_else (f (at j))) h
     go false h = h
 

@@ -1,10 +1,9 @@
 -- The section list and the program table as tables of numbers: those that sections list one after the other, and what a number stands for.
-use Rattle.std.specs.Prelude.{◌≡◌, Bool}
+use Rattle.std.specs.Prelude.{◌≡◌, Bool, None, Option, Some}
 use Rattle.std.proofs.Math.Path.{refl, sym, ap}
 use Rattle.std.proofs.Common.{◌∙◌, not-suc-le-zero, le_of_suc-le-suc, eq-or-lt_of_le, arith}
 use Rattle.std.proofs.Math.Bool.{true, false, cond}
 use mathlib.Core.List.{List, [], ◌∷◌, ◌++◌, map}
-use Rattle.std.proofs.Math.Option.{Option, none, some}
 use Prim.Native.Nat.{ℕ, zero, suc, ◌<◌}
 use Rattle.std.proofs.Math.Logic.{⊎_elim}
 use borrow.Author.Tests.{eqb-true, eq-eqb, ne_eqb}
@@ -85,27 +84,27 @@ module _ (e : Endianness) (sec : ℕ → Section) (S : ℕ) (at : ℕ → Symbol
   find-append p [] b = refl
   find-append p (x ∷ a) b = go (p x) (find-append p a b)
     where
-      go : (t : Bool) → first_in (λ y. cond (p y) (some y) none) (a ++ b) ≡ or_else (first_in (λ y. cond (p y) (some y) none) a) (first_in (λ y. cond (p y) (some y) none) b)
-          → or_else (cond t (some x) none) (first_in (λ y. cond (p y) (some y) none) (a ++ b))
-          ≡ or_else (or_else (cond t (some x) none) (first_in (λ y. cond (p y) (some y) none) a)) (first_in (λ y. cond (p y) (some y) none) b)
+      go : (t : Bool) → first_in (λ y. cond (p y) (Some y) None) (a ++ b) ≡ or_else (first_in (λ y. cond (p y) (Some y) None) a) (first_in (λ y. cond (p y) (Some y) None) b)
+          → or_else (cond t (Some x) None) (first_in (λ y. cond (p y) (Some y) None) (a ++ b))
+          ≡ or_else (or_else (cond t (Some x) None) (first_in (λ y. cond (p y) (Some y) None) a)) (first_in (λ y. cond (p y) (Some y) None) b)
       go true h = refl
       go false h = h
 
-  pub none-up : (p : ℕ → Bool) (n : ℕ) → ((i : ℕ) → i < n → p i ≡ false) → find p (up_to n) ≡ none
+  pub none-up : (p : ℕ → Bool) (n : ℕ) → ((i : ℕ) → i < n → p i ≡ false) → find p (up_to n) ≡ None
   unfolding tab find first_in
   none-up p zero h = refl
   none-up p (suc n) h = find-append p (up_to n) (n ∷ []) ∙ rw (none-up p n (λ i l. h i (omega arith)), h n (omega arith))
 
-  found_up : (p : ℕ → Bool) (n i : ℕ) → i < n → p i ≡ true → ((k : ℕ) → k < i → p k ≡ false) → find p (up_to n) ≡ some i
+  found_up : (p : ℕ → Bool) (n i : ℕ) → i < n → p i ≡ true → ((k : ℕ) → k < i → p k ≡ false) → find p (up_to n) ≡ Some i
   unfolding tab find first_in
   found_up p zero i l q h = absurd (not-suc-le-zero l)
   found_up p (suc n) i l q h =
       ⊎_elim
-      (λ r. let u : find p (up_to n) ≡ none = none-up p n (λ k m. h k (omega arith)) in let v : p n ≡ true = rw (← r) q in find-append p (up_to n) (n ∷ []) ∙ rw (u, v) (ap some (sym r)))
+      (λ r. let u : find p (up_to n) ≡ None = none-up p n (λ k m. h k (omega arith)) in let v : p n ≡ true = rw (← r) q in find-append p (up_to n) (n ∷ []) ∙ rw (u, v) (ap Some (sym r)))
       (λ r. find-append p (up_to n) (n ∷ []) ∙ rw (found_up p n i r q h))
       (eq-or-lt_of_le (le_of_suc-le-suc l))
 
-  pub owner-is : IndexesRising → (i : ℕ) → i < S → owner (sec i).index.0 ≡ some i
+  pub owner-is : IndexesRising → (i : ℕ) → i < S → owner (sec i).index.0 ≡ Some i
   unfolding owner
   owner-is rise i l =
       found_up (λ k. eqb (sec k).index.0 (sec i).index.0) S i l (eq-eqb (sec i).index.0 (sec i).index.0 refl)
@@ -119,8 +118,8 @@ module _ (e : Endianness) (sec : ℕ → Section) (S : ℕ) (at : ℕ → Symbol
   home-is rise i j l h = go (at j).section h
     where
       go : (o : Option SectionIndex) → lies_in (sec i).index o ≡ true → maybe o 0 (λ k. maybe (owner k.0) 0 (λ m. m)) ≡ i
-      go none q = true-not-false (sym q)
-      go (some k) q = let r : (sec i).index.0 ≡ k.0 = eqb-true _ _ q in rw (← r, owner-is rise i l)
+      go None q = true-not-false (sym q)
+      go (Some k) q = let r : (sec i).index.0 ≡ k.0 = eqb-true _ _ q in rw (← r, owner-is rise i l)
 
   pub members-home : IndexesRising → (i : ℕ) → i < S → All (λ j. home j ≡ i) (members e (tab sec S) at Y (sec i))
   unfolding members
@@ -172,8 +171,8 @@ module _ (e : Endianness) (sec : ℕ → Section) (S : ℕ) (at : ℕ → Symbol
     where
       listed : (i : ℕ) (o : Option ProgramSection) → i < S → program_of (sec i).name ≡ o → is_some o ≡ true
           → maybe o [] (λ v. map (program_at v (sec i)) (program_symbols whole (sec i))) ≡ map program_in (program_members e (tab sec S) at Y (sec i))
-      listed i none l q h = true-not-false (sym h)
-      listed i (some v) l q h =
+      listed i None l q h = true-not-false (sym h)
+      listed i (Some v) l q h =
           ap (map (program_at v (sec i))) (programs-by e (tab sec S) at Y (sec i)) ∙ map-map-at (program_members e (tab sec S) at Y (sec i))
           ∙ map_on (λ j. home j ≡ i) (λ j. program_at v (sec i) (at j)) program_in (program_members e (tab sec S) at Y (sec i)) (programs-home rise i l)
           (λ j r. rw (r, q))

@@ -1,11 +1,10 @@
 -- Number 11 by a sorted list: of symbol numbers that rise, the first to repeat an address is the least that has the address of the one before it once they are
 -- sorted by address.
-use Rattle.std.specs.Prelude.{◌≡◌, Bool, ◌||◌}
+use Rattle.std.specs.Prelude.{◌≡◌, Bool, ◌||◌, None, Option, Some}
 use Rattle.std.proofs.Math.Path.{refl, sym, ap}
 use Rattle.std.proofs.Common.{◌∙◌}
 use Rattle.std.proofs.Math.Bool.{true, false, cond}
 use mathlib.Core.List.{List, [], ◌∷◌, map}
-use Rattle.std.proofs.Math.Option.{Option, none, some}
 use Prim.Native.Nat.{ℕ, suc, ◌<◌, ◌≤◌, min}
 use native.Mathlib.Omega.{arith}
 use borrow.Author.Tests.{eqb-true, eqb-false, eq-eqb, ne_eqb, leb-true, leb-false, le-leb}
@@ -18,21 +17,21 @@ use Rattle.catalogue_laws.specs.Sorted.{find-sorted}
 
 -- the lesser of two numbers, where there are any
 abbrev pub earlier : Option ℕ → Option ℕ → Option ℕ
-earlier none b = b
-earlier (some a) none = some a
-earlier (some a) (some b) = some (min a b)
+earlier None b = b
+earlier (Some a) None = Some a
+earlier (Some a) (Some b) = Some (min a b)
 
 earlier-swap : (a b : Option ℕ) → earlier a b ≡ earlier b a
-earlier-swap none none = refl
-earlier-swap none (some b) = refl
-earlier-swap (some a) none = refl
-earlier-swap (some a) (some b) = ap some (omega arith)
+earlier-swap None None = refl
+earlier-swap None (Some b) = refl
+earlier-swap (Some a) None = refl
+earlier-swap (Some a) (Some b) = ap Some (omega arith)
 
 pub earlier-join : (a b c : Option ℕ) → earlier (earlier a b) c ≡ earlier a (earlier b c)
-earlier-join none b c = refl
-earlier-join (some a) none c = refl
-earlier-join (some a) (some b) none = refl
-earlier-join (some a) (some b) (some c) = ap some (omega arith)
+earlier-join None b c = refl
+earlier-join (Some a) None c = refl
+earlier-join (Some a) (Some b) None = refl
+earlier-join (Some a) (Some b) (Some c) = ap Some (omega arith)
 
 -- each number is above the one before, and above n
 abbrev pub RisesFrom : ℕ → List ℕ → Type 0
@@ -41,22 +40,22 @@ RisesFrom n (j ∷ l) = (n ≤ j) × RisesFrom (suc j) l
 
 -- a number that is not below n, if it is one
 abbrev From : ℕ → Option ℕ → Type 0
-From n none = Unit {0}
-From n (some b) = n ≤ b
+From n None = Unit {0}
+From n (Some b) = n ≤ b
 
-earlier-first : (j : ℕ) (b : Option ℕ) → From j b → earlier (some j) b ≡ some j
-earlier-first j none h = refl
-earlier-first j (some b) h = ap some (omega arith)
+earlier-first : (j : ℕ) (b : Option ℕ) → From j b → earlier (Some j) b ≡ Some j
+earlier-first j None h = refl
+earlier-first j (Some b) h = ap Some (omega arith)
 
 from_less : (m n : ℕ) (b : Option ℕ) → m ≤ n → From n b → From m b
-from_less m n none h k = tt
-from_less m n (some b) h k = omega arith
+from_less m n None h k = tt
+from_less m n (Some b) h k = omega arith
 
 module _ (addr : ℕ → ℕ) where
   -- the first that has the address of one before it, or one that was seen
   unfoldable pub repeat_in : List ℕ → List ℕ → Option ℕ
-  repeat_in seen [] = none
-  repeat_in seen (j ∷ l) = cond (is_some (find (eqb (addr j)) seen)) (some j) (repeat_in (addr j ∷ seen) l)
+  repeat_in seen [] = None
+  repeat_in seen (j ∷ l) = cond (is_some (find (eqb (addr j)) seen)) (Some j) (repeat_in (addr j ∷ seen) l)
 
   -- the first at the address a
   abbrev pub first_at : ℕ → List ℕ → Option ℕ
@@ -66,7 +65,7 @@ module _ (addr : ℕ → ℕ) where
   unfolding find first_in
   seen-cons a b seen = go (eqb a b)
     where
-      go : (t : Bool) → is_some (or_else (cond t (some b) none) (first_in (λ x. cond (eqb a x) (some x) none) seen)) ≡ (t || is_some (first_in (λ x. cond (eqb a x) (some x) none) seen))
+      go : (t : Bool) → is_some (or_else (cond t (Some b) None) (first_in (λ x. cond (eqb a x) (Some x) None) seen)) ≡ (t || is_some (first_in (λ x. cond (eqb a x) (Some x) None) seen))
       go true = refl
       go false = refl
 
@@ -75,7 +74,7 @@ module _ (addr : ℕ → ℕ) where
   unfolding repeat_in
   repeat-same s t [] h = refl
   repeat-same s t (j ∷ l) h =
-      λ k. cond (h (addr j) k) (some j) (repeat-same (addr j ∷ s) (addr j ∷ t) l (λ a. seen-cons a (addr j) s ∙ ap (λ b. eqb a (addr j) || b) (h a) ∙ sym (seen-cons a (addr j) t)) k)
+      λ k. cond (h (addr j) k) (Some j) (repeat-same (addr j ∷ s) (addr j ∷ t) l (λ a. seen-cons a (addr j) s ∙ ap (λ b. eqb a (addr j) || b) (h a) ∙ sym (seen-cons a (addr j) t)) k)
 
   or_swap : (a b c : Bool) → (a || (b || c)) ≡ (b || (a || c))
   or_swap true true c = refl
@@ -94,7 +93,7 @@ module _ (addr : ℕ → ℕ) where
   repeat-from n seen [] h = tt
   repeat-from n seen (j ∷ l) h = go (is_some (find (eqb (addr j)) seen)) (from_less n (suc j) (repeat_in (addr j ∷ seen) l) (let p : n ≤ j = h.0 in omega arith) (repeat-from (suc j) (addr j ∷ seen) l h.1))
     where
-      go : (b : Bool) → From n (repeat_in (addr j ∷ seen) l) → From n (cond b (some j) (repeat_in (addr j ∷ seen) l))
+      go : (b : Bool) → From n (repeat_in (addr j ∷ seen) l) → From n (cond b (Some j) (repeat_in (addr j ∷ seen) l))
       go true r = h.0
       go false r = r
 
@@ -103,8 +102,8 @@ module _ (addr : ℕ → ℕ) where
   first-from n a [] h = tt
   first-from n a (j ∷ l) h = go (eqb (addr j) a) (from_less n (suc j) (first_at a l) (let p : n ≤ j = h.0 in omega arith) (first-from (suc j) a l h.1))
     where
-      go : (b : Bool) → From n (first_in (λ x. cond (eqb (addr x) a) (some x) none) l)
-          → From n (or_else (cond b (some j) none) (first_in (λ x. cond (eqb (addr x) a) (some x) none) l))
+      go : (b : Bool) → From n (first_in (λ x. cond (eqb (addr x) a) (Some x) None) l)
+          → From n (or_else (cond b (Some j) None) (first_in (λ x. cond (eqb (addr x) a) (Some x) None) l))
       go true r = h.0
       go false r = r
 
@@ -116,14 +115,14 @@ module _ (addr : ℕ → ℕ) where
       rw (seen-cons (addr j) a seen)
       (go (eqb (addr j) a) (is_some (find (eqb (addr j)) seen)) (swap-seen (addr j) a seen l ∙ repeat-more (suc j) a (addr j ∷ seen) l h.1))
     where
-      above : (b : Option ℕ) → From (suc j) b → earlier (some j) b ≡ some j
+      above : (b : Option ℕ) → From (suc j) b → earlier (Some j) b ≡ Some j
       above b k = earlier-first j b (from_less j (suc j) b (omega arith) k)
 
       go : (b c : Bool) → repeat_in (addr j ∷ a ∷ seen) l ≡ earlier (repeat_in (addr j ∷ seen) l) (first_at a l)
-          → cond (b || c) (some j) (repeat_in (addr j ∷ a ∷ seen) l)
-          ≡ earlier (cond c (some j) (repeat_in (addr j ∷ seen) l)) (or_else (cond b (some j) none) (first_in (λ x. cond (eqb (addr x) a) (some x) none) l))
-      go true true r = ap some (omega arith)
-      go true false r = sym (earlier-swap (repeat_in (addr j ∷ seen) l) (some j) ∙ above (repeat_in (addr j ∷ seen) l) (repeat-from (suc j) (addr j ∷ seen) l h.1))
+          → cond (b || c) (Some j) (repeat_in (addr j ∷ a ∷ seen) l)
+          ≡ earlier (cond c (Some j) (repeat_in (addr j ∷ seen) l)) (or_else (cond b (Some j) None) (first_in (λ x. cond (eqb (addr x) a) (Some x) None) l))
+      go true true r = ap Some (omega arith)
+      go true false r = sym (earlier-swap (repeat_in (addr j ∷ seen) l) (Some j) ∙ above (repeat_in (addr j ∷ seen) l) (repeat-from (suc j) (addr j ∷ seen) l h.1))
       go false true r = sym (above (first_at a l) (first-from (suc j) a l h.1))
       go false false r = r
 
@@ -134,16 +133,16 @@ module _ (addr : ℕ → ℕ) where
 
   -- the least that has the address of the one before it
   unfoldable pub least_again : List ℕ → Option ℕ
-  least_again [] = none
-  least_again (a ∷ []) = none
-  least_again (a ∷ b ∷ l) = earlier (cond (eqb (addr a) (addr b)) (some b) none) (least_again (b ∷ l))
+  least_again [] = None
+  least_again (a ∷ []) = None
+  least_again (a ∷ b ∷ l) = earlier (cond (eqb (addr a) (addr b)) (Some b) None) (least_again (b ∷ l))
 
   -- each is at or behind the one before, and at or behind n
   abbrev pub Climbs : ℕ → List ℕ → Type 0
   Climbs n [] = Unit {0}
   Climbs n (j ∷ l) = (n ≤ addr j) × Climbs (addr j) l
 
-  pub none_below : (a n : ℕ) (l : List ℕ) → Climbs n l → a < n → first_at a l ≡ none
+  pub none_below : (a n : ℕ) (l : List ℕ) → Climbs n l → a < n → first_at a l ≡ None
   unfolding find first_in
   none_below a n [] h k = refl
   none_below a n (j ∷ l) h k =
@@ -171,7 +170,7 @@ module _ (addr : ℕ → ℕ) where
   again-insert n x (y ∷ []) h = go (leb (addr x) (addr y)) (eqb (addr y) (addr x)) refl refl
     where
       go : (b c : Bool) → leb (addr x) (addr y) ≡ b → eqb (addr y) (addr x) ≡ c
-          → least_again (pick b (x ∷ y ∷ []) (y ∷ x ∷ [])) ≡ or_else (cond c (some y) none) none
+          → least_again (pick b (x ∷ y ∷ []) (y ∷ x ∷ [])) ≡ or_else (cond c (Some y) None) None
       go true true e f = let q : addr y ≡ addr x = eqb-true _ _ f in rw (eq-eqb (addr x) (addr y) (sym q))
       go true false e f = let q : (addr y ≡ addr x) → ⊥ = eqb-false _ _ f in rw (ne_eqb (addr x) (addr y) (λ r. q (sym r)))
       go false true e f = let q : addr y ≡ addr x = eqb-true _ _ f in let p : addr y < addr x = leb-false _ _ e in let no : ⊥ = omega arith in absurd no
@@ -179,17 +178,17 @@ module _ (addr : ℕ → ℕ) where
   again-insert n x (y ∷ z ∷ l) h = go (leb (addr x) (addr y)) refl (again-insert (addr y) x (z ∷ l) h.1)
     where
       rest : Option ℕ
-      rest = first_in (λ j. cond (eqb (addr j) (addr x)) (some j) none) (z ∷ l)
+      rest = first_in (λ j. cond (eqb (addr j) (addr x)) (Some j) None) (z ∷ l)
 
       -- x stands before y
       front : (c : Bool) → eqb (addr y) (addr x) ≡ c → addr x ≤ addr y
-          → earlier (cond (eqb (addr x) (addr y)) (some y) none) (least_again (y ∷ z ∷ l)) ≡ earlier (least_again (y ∷ z ∷ l)) (or_else (cond c (some y) none) rest)
-      front true e k = let q : addr y ≡ addr x = eqb-true _ _ e in rw (eq-eqb (addr x) (addr y) (sym q)) (earlier-swap (some y) (least_again (y ∷ z ∷ l)))
+          → earlier (cond (eqb (addr x) (addr y)) (Some y) None) (least_again (y ∷ z ∷ l)) ≡ earlier (least_again (y ∷ z ∷ l)) (or_else (cond c (Some y) None) rest)
+      front true e k = let q : addr y ≡ addr x = eqb-true _ _ e in rw (eq-eqb (addr x) (addr y) (sym q)) (earlier-swap (Some y) (least_again (y ∷ z ∷ l)))
       front false e k =
           let q : (addr y ≡ addr x) → ⊥ = eqb-false _ _ e in
           let f : eqb (addr x) (addr y) ≡ false = ne_eqb (addr x) (addr y) (λ r. q (sym r)) in
-          let g : rest ≡ none = none_below (addr x) (addr y) (z ∷ l) h.1 (omega arith) in
-          rw (f, g) (sym (earlier-swap (least_again (y ∷ z ∷ l)) none))
+          let g : rest ≡ None = none_below (addr x) (addr y) (z ∷ l) h.1 (omega arith) in
+          rw (f, g) (sym (earlier-swap (least_again (y ∷ z ∷ l)) None))
 
       -- y stays in front: what follows it is x or z
       behind : (b : Bool) → leb (addr x) (addr z) ≡ b → addr y < addr x
@@ -201,10 +200,10 @@ module _ (addr : ℕ → ℕ) where
           let g : eqb (addr y) (addr z) ≡ false = ne_eqb (addr y) (addr z) (omega arith) in
           rw (f, g) r
       behind false e k r =
-          ap (earlier (cond (eqb (addr y) (addr z)) (some z) none)) r ∙ sym (earlier-join (cond (eqb (addr y) (addr z)) (some z) none) (least_again (z ∷ l)) rest)
+          ap (earlier (cond (eqb (addr y) (addr z)) (Some z) None)) r ∙ sym (earlier-join (cond (eqb (addr y) (addr z)) (Some z) None) (least_again (z ∷ l)) rest)
 
       go : (b : Bool) → leb (addr x) (addr y) ≡ b → least_again (insert by_address x (z ∷ l)) ≡ earlier (least_again (z ∷ l)) rest
-          → least_again (pick b (x ∷ y ∷ z ∷ l) (y ∷ insert by_address x (z ∷ l))) ≡ earlier (least_again (y ∷ z ∷ l)) (or_else (cond (eqb (addr y) (addr x)) (some y) none) rest)
+          → least_again (pick b (x ∷ y ∷ z ∷ l) (y ∷ insert by_address x (z ∷ l))) ≡ earlier (least_again (y ∷ z ∷ l)) (or_else (cond (eqb (addr y) (addr x)) (Some y) None) rest)
       go true e r = front (eqb (addr y) (addr x)) refl (leb-true _ _ e)
       go false e r =
           let k : addr y < addr x = leb-false _ _ e in
@@ -224,14 +223,14 @@ module _ (addr : ℕ → ℕ) where
 
 -- number 11 on the symbols that numbers stand for
 pub shared-is : (s : Section) (sym : ℕ → Symbol) (seen l : List ℕ)
-    → shared_refusal s seen (map sym l) ≡ maybe (repeat_in (λ j. (sym j).address) seen l) none (λ j. of_symbol 11 s (sym j) true)
+    → shared_refusal s seen (map sym l) ≡ maybe (repeat_in (λ j. (sym j).address) seen l) None (λ j. of_symbol 11 s (sym j) true)
 unfolding shared_refusal repeat_in
 shared-is s sym seen [] = refl
 shared-is s sym seen (j ∷ l) = go (is_some (find (eqb (sym j).address) seen)) (shared-is s sym ((sym j).address ∷ seen) l)
   where
     go : (b : Bool)
-        → shared_refusal s ((sym j).address ∷ seen) (map sym l) ≡ maybe (repeat_in (λ i. (sym i).address) ((sym j).address ∷ seen) l) none (λ i. of_symbol 11 s (sym i) true)
+        → shared_refusal s ((sym j).address ∷ seen) (map sym l) ≡ maybe (repeat_in (λ i. (sym i).address) ((sym j).address ∷ seen) l) None (λ i. of_symbol 11 s (sym i) true)
         → or_else (of_symbol 11 s (sym j) b) (shared_refusal s ((sym j).address ∷ seen) (map sym l))
-        ≡ maybe (cond b (some j) (repeat_in (λ i. (sym i).address) ((sym j).address ∷ seen) l)) none (λ i. of_symbol 11 s (sym i) true)
+        ≡ maybe (cond b (Some j) (repeat_in (λ i. (sym i).address) ((sym j).address ∷ seen) l)) None (λ i. of_symbol 11 s (sym i) true)
     go true h = refl
     go false h = h

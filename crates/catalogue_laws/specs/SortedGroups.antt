@@ -1,10 +1,9 @@
 -- Where a section's symbols stand among all symbols sorted by section, and its defined text among those sorted by section and address: one group each.
-use Rattle.std.specs.Prelude.{◌≡◌, true, false, cond, not, ltb, leb, take, drop}
+use Rattle.std.specs.Prelude.{◌≡◌, true, false, cond, not, ltb, leb, take, drop, None, Option, Some}
 use Rattle.std.proofs.Math.Path.{refl, sym, ap}
 use Rattle.std.proofs.Common.{◌∙◌, arith, eqb-true, eq-eqb, ne_eqb, le-ltb, ltb-true, ltb-false, le-leb, take-append-drop}
 use Rattle.std.proofs.Math.Bool.{Bool}
 use mathlib.Core.List.{List, [], ◌∷◌, ◌++◌, append-nil}
-use Rattle.std.proofs.Math.Option.{Option, none, some}
 use Prim.Native.Nat.{ℕ, zero, suc, ◌<◌, ◌≤◌}
 use Rattle.std.proofs.lemmas.Bool.{lt-leb}
 use Rattle.std.proofs.Math.Dec.{eqb}
@@ -95,8 +94,8 @@ by_place at = by_key (λ j. raw_section (at j) ∷ (at j).address ∷ [])
 
 module _ (e : Endianness) (ss : List Section) (at : ℕ → Symbol) (Y : ℕ) where
   lies-raw : (i : SectionIndex) (o : Option SectionIndex) → (i.0 ≡ 4294967295 → ⊥) → lies_in i o ≡ eqb i.0 (maybe o 4294967295 (λ k. k.0))
-  lies-raw i none h = sym (ne_eqb i.0 4294967295 h)
-  lies-raw i (some k) h = refl
+  lies-raw i None h = sym (ne_eqb i.0 4294967295 h)
+  lies-raw i (Some k) h = refl
 
   -- the section's symbols, by the raw number
   pub members-raw : (s : Section) → (s.index.0 ≡ 4294967295 → ⊥) → keep (λ j. eqb s.index.0 (raw_section (at j))) (up_to Y) ≡ members e ss at Y s

@@ -1,10 +1,10 @@
 -- What is known of a deposit that is opened: its limits, the rules of each record, and the object that it states, each part by its place.
-use Rattle.std.specs.Prelude.{◌≡◌, Bool, true, false, cond, ◌&&◌, not, leb, ltb, length, get_or, take, drop}
+use Rattle.deposit_rules.specs.declared.RecordFault.{RecordFault}
+use Rattle.std.specs.Prelude.{⊤, ◌≡◌, Bool, true, false, cond, ◌&&◌, not, leb, ltb, length, get_or, take, drop, Err, None, Ok, Option, Result, Some}
 use Rattle.std.proofs.Math.Path.{refl, ap}
 use Rattle.std.proofs.Common.{sym, ◌∙◌, not-suc-le-zero, le_of_suc-le-suc}
 use Rattle.std.proofs.Math.Bool.{and-eq-true_iff}
 use mathlib.Core.List.{List, [], ◌∷◌, map}
-use Rattle.std.proofs.Math.Option.{Option, none, some}
 use Prim.Native.Nat.{ℕ, zero, suc, ◌+◌, ◌%◌, ◌<◌, ◌≤◌}
 use Rattle.std.proofs.Math.Nat.{le_trans, lt_trans}
 use native.Mathlib.Omega.{arith}
@@ -29,8 +29,6 @@ use Rattle.object_view.specs.declared.View.{View}
 use Rattle.records.specs.View.{deposit_view}
 use Rattle.deposit_rules.specs.Parts.{head-stream, parts-sections, parts-symbols, parts-relocations, parts-bytes}
 use Rattle.deposit_rules.specs.Rules.{ruled, name_byte, stream_name, name_ok_at, section_ok_at, symbol_ok_at, sections_ok, symbols_ok, relocations_ok, rest_ok, records_ok_at, some_btf, ruled-all, name-cut}
-use Rattle.deposit_rules.specs.declared.Checked.{Checked}
-use Rattle.object_view.specs.declared.Opened.{Opened}
 use Rattle.deposit.specs.Open.{opened_of, stream_length, stream_ok_at, checked_stream, Framed, framed, btf, opened_by, opened-1, opened-checked}
 
 -- ---- the object's parts, by their places
@@ -111,7 +109,7 @@ module _ (d : List ℕ) (h : Head) where
     pub object-sections : (object_of d).sections ≡ tab (λ i. stream_section (deposit_section d i)) h.sections
     pub object-symbols : (object_of d).symbols ≡ tab (λ i. stream_symbol (deposit_symbol d h i)) h.symbols
     pub no-btf : has_btf (object_of d) ≡ false
-    pub no-refusal : deposit_refusal d ≡ none
+    pub no-refusal : deposit_refusal d ≡ None
 
 -- ---- what a test that passed says
 
@@ -276,29 +274,29 @@ module _ (d : List ℕ) (h : Head) where
 
 -- ---- a deposit that is opened
 
-passed : (d : List ℕ) (v : View) → opened_of d ≡ Opened.View v → deposit_refusal d ≡ none
+passed : (d : List ℕ) (v : View) → opened_of d ≡ Ok v → deposit_refusal d ≡ None
 unfolding opened_of
 passed d v e = go (deposit_refusal d) refl e
   where
-    go : (o : Option Refusal) → deposit_refusal d ≡ o → maybe o (Opened.View (deposit_view (head_of (stream_of d)))) (λ r. Opened.Refused r) ≡ Opened.View v → deposit_refusal d ≡ none
-    go none p q = p
-    go (some r) p q = let z : ◌≡◌ {A = ℕ} 0 1 = cc in absurd (omega arith)
+    go : (o : Option Refusal) → deposit_refusal d ≡ o → maybe o (Ok (deposit_view (head_of (stream_of d)))) (λ r. Err r) ≡ Ok v → deposit_refusal d ≡ None
+    go None p q = p
+    go (Some r) p q = let z : ◌≡◌ {A = ℕ} 0 1 = cc in absurd (omega arith)
 
 -- the other answer
-pub refused-by : (d : List ℕ) (r : Refusal) → opened_of d ≡ Opened.Refused r → deposit_refusal d ≡ some r
+pub refused-by : (d : List ℕ) (r : Refusal) → opened_of d ≡ Err r → deposit_refusal d ≡ Some r
 unfolding opened_of
 refused-by d r e = go (deposit_refusal d) refl e
   where
-    go : (o : Option Refusal) → deposit_refusal d ≡ o → maybe o (Opened.View (deposit_view (head_of (stream_of d)))) (λ r. Opened.Refused r) ≡ Opened.Refused r → deposit_refusal d ≡ some r
-    go none p q = let z : ◌≡◌ {A = ℕ} 0 1 = cc in absurd (omega arith)
-    go (some s) p q = let f : Opened.Refused s ≡ Opened.Refused r = q in let g : s ≡ r = cc in p ∙ ap some g
+    go : (o : Option Refusal) → deposit_refusal d ≡ o → maybe o (Ok (deposit_view (head_of (stream_of d)))) (λ r. Err r) ≡ Err r → deposit_refusal d ≡ Some r
+    go None p q = let z : ◌≡◌ {A = ℕ} 0 1 = cc in absurd (omega arith)
+    go (Some s) p q = let f : Err s ≡ Err r = q in let g : s ≡ r = cc in p ∙ ap Some g
 
-fine : (a b : Bool) → cond a (cond b Checked.Btf Checked.Fine) Checked.Broken ≡ Checked.Fine → (a ≡ true) × (b ≡ false)
+fine : (a b : Bool) → cond {A = Result ⊤ RecordFault} a (cond b (Err RecordFault.Btf) (Ok tt)) (Err RecordFault.Broken) ≡ Ok tt → (a ≡ true) × (b ≡ false)
 fine true true e = let z : ◌≡◌ {A = ℕ} 0 1 = cc in absurd (omega arith)
 fine true false e = (refl, refl)
 fine false b e = let z : ◌≡◌ {A = ℕ} 0 1 = cc in absurd (omega arith)
 
-accepted-by : (d : List ℕ) (h : Head) → Framed d → head_at d ≡ h → stream_ok_at d h ≡ true → some_btf d h ≡ false → deposit_refusal d ≡ none → AcceptedStream d h
+accepted-by : (d : List ℕ) (h : Head) → Framed d → head_at d ≡ h → stream_ok_at d h ≡ true → some_btf d h ≡ false → deposit_refusal d ≡ None → AcceptedStream d h
 unfolding stream_ok_at records_ok_at head_ok sections_ok symbols_ok relocations_ok
 accepted-by d h f e t b n =
     let s₀ = both (head_ok h) (leb (end_of h) (stream_length d) && (ltb (stream_length d) (end_of h + 508) && records_ok_at d h)) t in
@@ -341,16 +339,16 @@ accepted-by d h f e t b n =
     }
 
 -- its view is that of its head
-pub accepted : (d : List ℕ) (v : View) → opened_of d ≡ Opened.View v → (v ≡ deposit_view (head_at d)) × AcceptedStream d (head_at d)
+pub accepted : (d : List ℕ) (v : View) → opened_of d ≡ Ok v → (v ≡ deposit_view (head_at d)) × AcceptedStream d (head_at d)
 unfolding checked_stream
 accepted d v e = go (frame_ok d) refl
   where
-    opened : frame_ok d ≡ true → (c : Checked) → checked_stream d (head_at d) ≡ c → opened_by c (head_at d) ≡ Opened.View v
+    opened : frame_ok d ≡ true → (c : Result ⊤ RecordFault) → checked_stream d (head_at d) ≡ c → opened_by c (head_at d) ≡ Ok v
         → (v ≡ deposit_view (head_at d)) × AcceptedStream d (head_at d)
-    opened f Checked.Broken p q = let z : ◌≡◌ {A = ℕ} 0 1 = cc in absurd (omega arith)
-    opened f Checked.Btf p q = let z : ◌≡◌ {A = ℕ} 0 1 = cc in absurd (omega arith)
-    opened f Checked.Fine p q =
-        let r : Opened.View (deposit_view (head_at d)) ≡ Opened.View v = q in
+    opened f (Err RecordFault.Broken) p q = let z : ◌≡◌ {A = ℕ} 0 1 = cc in absurd (omega arith)
+    opened f (Err RecordFault.Btf) p q = let z : ◌≡◌ {A = ℕ} 0 1 = cc in absurd (omega arith)
+    opened f (Ok tt) p q =
+        let r : Ok (deposit_view (head_at d)) ≡ Ok v = q in
         let g : v ≡ deposit_view (head_at d) = cc in
         let s = fine (stream_ok_at d (head_at d)) (some_btf d (head_at d)) p in
         (g, accepted-by d (head_at d) (framed d f) refl s.0 s.1 (passed d v e))

@@ -1,5 +1,7 @@
 -- 'Why a deposit goes back', numbers 1 to 3: what opening a deposit answers, and the same by places.
-use Rattle.std.specs.Prelude.{◌≡◌, refl, Bool, true, false, cond, ◌&&◌, not, List, ℕ, ◌+◌, ◌*◌, ◌/◌, ◌%◌, ◌≤◌, eqb, leb, ltb, length}
+use Rattle.object_view.specs.declared.View.{View}
+use Rattle.deposit_rules.specs.declared.RecordFault.{RecordFault}
+use Rattle.std.specs.Prelude.{⊤, ◌≡◌, refl, Bool, true, false, cond, ◌&&◌, not, List, ℕ, ◌+◌, ◌*◌, ◌/◌, ◌%◌, ◌≤◌, eqb, leb, ltb, length, Err, Ok, Result}
 use Rattle.std.proofs.Common.{ap, ◌∙◌, arith, leb-true, eqb-true}
 use Rattle.std.proofs.Math.Bool.{and_assoc, and-eq-true_iff}
 use Rattle.std.proofs.lemmas.Bool.{eqb-false, not-true}
@@ -13,16 +15,14 @@ use Rattle.records.specs.Records.{head_at}
 use Rattle.records.specs.View.{deposit_view}
 use Rattle.deposit_rules.specs.Parts.{head-stream}
 use Rattle.deposit_rules.specs.Rules.{sections_ok, symbols_ok, relocations_ok, rest_ok, records_ok_at, some_btf, records-ok, btf-is}
-use Rattle.deposit_rules.specs.declared.Checked.{Checked}
-use Rattle.object_view.specs.declared.Opened.{Opened}
 
 -- '1 to 3 name 0 0 0.'
 abbrev pub without_place : ℕ → Refusal
 without_place n = record { number = n; section = no_section; symbol = no_symbol; entry = 0 }
 
 -- the view of a deposit that passes, or why it goes back
-unfoldable pub opened_of : List ℕ → Opened
-opened_of d = maybe (deposit_refusal d) (Opened.View (deposit_view (head_of (stream_of d)))) (λ r. Opened.Refused r)
+unfoldable pub opened_of : List ℕ → Result View Refusal
+opened_of d = maybe (deposit_refusal d) (Ok (deposit_view (head_of (stream_of d)))) (λ r. Err r)
 
 -- ---- by places
 
@@ -33,8 +33,8 @@ stream_length d = length d / 512 * 508
 unfoldable pub stream_ok_at : List ℕ → Head → Bool
 stream_ok_at d h = head_ok h && (leb (end_of h) (stream_length d) && (ltb (stream_length d) (end_of h + 508) && records_ok_at d h))
 
-unfoldable pub checked_stream : List ℕ → Head → Checked
-checked_stream d h = cond (stream_ok_at d h) (cond (some_btf d h) Checked.Btf Checked.Fine) Checked.Broken
+unfoldable pub checked_stream : List ℕ → Head → Result ⊤ RecordFault
+checked_stream d h = cond (stream_ok_at d h) (cond (some_btf d h) (Err RecordFault.Btf) (Ok tt)) (Err RecordFault.Broken)
 
 -- ---- they are the model's
 
@@ -89,12 +89,12 @@ module _ (d : List ℕ) (f : Framed d) where
 -- ---- what opening answers
 
 -- the answer of a deposit whose blocks pass, by what its stream says
-abbrev pub opened_by : Checked → Head → Opened
-opened_by Checked.Broken h = Opened.Refused (without_place 2)
-opened_by Checked.Btf h = Opened.Refused (without_place 3)
-opened_by Checked.Fine h = Opened.View (deposit_view h)
+abbrev pub opened_by : Result ⊤ RecordFault → Head → Result View Refusal
+opened_by (Err RecordFault.Broken) h = Err (without_place 2)
+opened_by (Err RecordFault.Btf) h = Err (without_place 3)
+opened_by (Ok tt) h = Ok (deposit_view h)
 
-pub opened-1 : (d : List ℕ) → frame_ok d ≡ false → opened_of d ≡ Opened.Refused (without_place 1)
+pub opened-1 : (d : List ℕ) → frame_ok d ≡ false → opened_of d ≡ Err (without_place 1)
 unfolding opened_of deposit_refusal
 opened-1 d e = rw e
 
@@ -108,22 +108,22 @@ opened-checked d e = rw (e, stream-ok d f, head-stream d f.whole f.some) (go (st
     h : Head
     h = head_at d
 
-    last : (t : Bool) → maybe (of_deposit 3 t) (Opened.View (deposit_view h)) (λ r. Opened.Refused r) ≡ opened_by (cond t Checked.Btf Checked.Fine) h
+    last : (t : Bool) → maybe (of_deposit 3 t) (Ok (deposit_view h)) (λ r. Err r) ≡ opened_by (cond t (Err RecordFault.Btf) (Ok tt)) h
     last true = refl
     last false = refl
 
     go : (b : Bool) → stream_ok_at d h ≡ b
-        → maybe (or_else (of_deposit 2 (not b)) (of_deposit 3 (has_btf (object_of d)))) (Opened.View (deposit_view h)) (λ r. Opened.Refused r)
-        ≡ opened_by (cond b (cond (some_btf d h) Checked.Btf Checked.Fine) Checked.Broken) h
+        → maybe (or_else (of_deposit 2 (not b)) (of_deposit 3 (has_btf (object_of d)))) (Ok (deposit_view h)) (λ r. Err r)
+        ≡ opened_by (cond b (cond (some_btf d h) (Err RecordFault.Btf) (Ok tt)) (Err RecordFault.Broken)) h
     go true p = rw (btf d f p) (last (some_btf d h))
     go false p = refl
 
 -- the stream of one that passes ends inside its blocks
-pub fine_end : (d : List ℕ) (h : Head) → checked_stream d h ≡ Checked.Fine → end_of h ≤ stream_length d
+pub fine_end : (d : List ℕ) (h : Head) → checked_stream d h ≡ (Ok tt) → end_of h ≤ stream_length d
 unfolding checked_stream stream_ok_at
 fine_end d h e = go (stream_ok_at d h) refl e
   where
-    go : (b : Bool) → stream_ok_at d h ≡ b → cond b (cond (some_btf d h) Checked.Btf Checked.Fine) Checked.Broken ≡ Checked.Fine → end_of h ≤ stream_length d
+    go : (b : Bool) → stream_ok_at d h ≡ b → cond {A = Result ⊤ RecordFault} b (cond (some_btf d h) (Err RecordFault.Btf) (Ok tt)) (Err RecordFault.Broken) ≡ Ok tt → end_of h ≤ stream_length d
     go true p q =
         let s = both (head_ok h) (leb (end_of h) (stream_length d) && (ltb (stream_length d) (end_of h + 508) && records_ok_at d h)) p in
         let t = both (leb (end_of h) (stream_length d)) (ltb (stream_length d) (end_of h + 508) && records_ok_at d h) s.1 in

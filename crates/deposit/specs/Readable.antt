@@ -1,5 +1,5 @@
 -- The view of a deposit that is opened is Readable.
-use Rattle.std.specs.Prelude.{◌≡◌, List, ℕ, ◌+◌, ◌*◌, ◌/◌, ◌≤◌, length}
+use Rattle.std.specs.Prelude.{◌≡◌, List, ℕ, ◌+◌, ◌*◌, ◌/◌, ◌≤◌, length, Ok}
 use Rattle.std.proofs.Common.{arith}
 use Rattle.model.specs.declared.Head.{Head}
 use Rattle.model.specs.Deposit.{end_of}
@@ -7,7 +7,6 @@ use Rattle.records.specs.Records.{head_at, deposit_section, deposit_symbol}
 use Rattle.object_view.specs.declared.View.{View}
 use Rattle.records.specs.View.{deposit_view, section_at, symbol_at}
 use Rattle.records.specs.Readable.{Readable}
-use Rattle.object_view.specs.declared.Opened.{Opened}
 use Rattle.deposit.specs.Open.{opened_of}
 use Rattle.deposit.specs.Accepted.{AcceptedStream, accepted, name-placed, data-placed}
 
@@ -33,5 +32,5 @@ readable-accepted d t h a =
     }
 
 -- what `open` answers, with any index
-pub readable : (d t : List ℕ) (v : View) → opened_of d ≡ Opened.View v → Readable d t v
+pub readable : (d t : List ℕ) (v : View) → opened_of d ≡ Ok v → Readable d t v
 readable d t v e = let a = accepted d v e in rw a.0 (readable-accepted d t (head_at d) a.1)

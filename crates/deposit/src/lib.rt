@@ -5,62 +5,49 @@ ghost use Rattle.std.specs.Prelude.{◌≡◌};
 ghost use Rattle.deposit.specs.Open.{without_place, checked_stream, opened_of};
 
 use deposit_frame::frame_ok;
-use deposit_rules::{
-    Checked, check_sections, head_ok, names_ok, relocations_ok, rest_ok, symbols_ok,
-};
+use deposit_rules::{RecordFault, Tables, head_ok, relocations_ok, rest_ok};
 use model::{Head, Refusal, SectionIndex, SymbolIndex};
-use object_view::Opened;
+use object_view::View;
 use records::{deposit_view, end_of, head};
 
-fn check_stream(d: &[u8], h: Head) -> Checked
+#[tactic(auto, using(std::proofs::lemmas::Bool::Decides::nat_tests), unfolding(crate::specs::Open::checked_stream, crate::specs::Open::stream_ok_at, deposit_rules::specs::Rules::records_ok_at, deposit_rules::specs::Checked::checked_sections))]
+fn check_stream(d: &[u8], h: Head) -> Result<(), RecordFault>
     ensures { result ≡ checked_stream d.now h }
 {
-    if !head_ok(h) {
-        return Checked::Broken;
-    }
     // No block is missing, and none is left over.
     let end = end_of(h);
     let len = d.len() / 512 * 508;
-    if end > len {
-        return Checked::Broken;
+    if !head_ok(h) || end > len || len >= end + 508 || !rest_ok(d, h) {
+        return Err(RecordFault::Broken);
     }
-    if len >= end + 508 {
-        return Checked::Broken;
+    let tables = Tables::new(d, h);
+    if !tables.symbols_ok() || !relocations_ok(d, h) {
+        return Err(RecordFault::Broken);
     }
-    if !rest_ok(d, h) {
-        return Checked::Broken;
-    }
-    let clean = names_ok(d, h);
-    if !symbols_ok(d, h, clean) {
-        return Checked::Broken;
-    }
-    if !relocations_ok(d, h) {
-        return Checked::Broken;
-    }
-    check_sections(d, h, clean)
+    tables.check_sections()
 }
 
-fn refused(number: u32) -> Opened
-    ensures { result ≡ Opened.Refused (without_place number) }
+fn refusal(number: u32) -> Refusal
+    ensures { result ≡ without_place number }
 {
-    Opened::Refused(Refusal {
+    Refusal {
         number,
         section: SectionIndex(0),
         symbol: SymbolIndex(0),
         entry: 0,
-    })
+    }
 }
 
-pub fn open(d: &[u8]) -> Opened
+pub fn open(d: &[u8]) -> Result<View, Refusal>
     ensures { result ≡ opened_of d.now }
 {
     if !frame_ok(d) {
-        return refused(1);
+        return Err(refusal(1));
     }
     let h = head(d);
     match check_stream(d, h) {
-        Checked::Broken => refused(2),
-        Checked::Btf => refused(3),
-        Checked::Fine => Opened::View(deposit_view(h)),
+        Ok(()) => Ok(deposit_view(h)),
+        Err(RecordFault::Broken) => Err(refusal(2)),
+        Err(RecordFault::Btf) => Err(refusal(3)),
     }
 }

@@ -1,11 +1,12 @@
 -- Tests on every byte of a list: from the front, in pieces, and by the least and the greatest of them.
-use Rattle.std.specs.Prelude.{◌≡◌, Bool, true, false, ◌&&◌, ℕ, ◌+◌, ◌<◌, min, max, leb, length, get_or, take, drop}
+use Rattle.std.specs.Prelude.{◌≡◌, Bool, true, false, ◌&&◌, ℕ, ◌+◌, ◌<◌, min, max, leb, length, get_or, take}
 use Rattle.std.proofs.Math.Path.{refl, sym, ap}
 use Rattle.std.proofs.Common.{ap₂, ◌∙◌, add-one, arith, leb-true, leb-false, le-leb}
 use Rattle.std.proofs.Math.Bool.{and_assoc, and-true}
 use mathlib.Core.List.{List, [], ◌∷◌, ◌++◌}
 use Rattle.std.proofs.lemmas.Bool.{lt-leb}
-use Rattle.std.proofs.Math.Seq.{take-suc, drop-cons}
+use Rattle.std.proofs.Math.Seq.{take-suc}
+use Rattle.std.specs.List.{list_all}
 use Rattle.model.specs.Deposit.{all}
 use Rattle.deposit_rules.specs.Rules.{name_byte}
 
@@ -21,10 +22,11 @@ module _ {A : Type 0} (p : A → Bool) where
   all_more b k x h =
       rw (add-one, take-suc b k x h) (all_append (take k b) (get_or b k x ∷ []) ∙ ap (λ (c : Bool). all p (take k b) && c) (and-true (p (get_or b k x))))
 
-  -- those from k on
-  pub all-next : (b : List A) (k : ℕ) (x : A) → k < length b → all p (drop k b) ≡ (p (get_or b k x) && all p (drop (k + 1) b))
+  -- as std says it
+  pub all-list : (xs : List A) → list_all p xs ≡ all p xs
   unfolding all
-  all-next b k x h = rw (add-one, drop-cons b k x h)
+  all-list [] = refl
+  all-list (x ∷ xs) = ap (λ (b : Bool). p x && b) (all-list xs)
 
 leb-min : (c a b : ℕ) → leb c (min a b) ≡ (leb c a && leb c b)
 leb-min c a b = go (leb c a) refl (leb c b) refl

@@ -1,10 +1,9 @@
 -- Number 2 by places: what each loop tests, and that together they are the rules of the model.
-use Rattle.std.specs.Prelude.{◌≡◌, cond, ◌&&◌, not, eqb, length, take, drop}
+use Rattle.std.specs.Prelude.{◌≡◌, cond, ◌&&◌, not, eqb, length, take, drop, None, Some}
 use Rattle.std.proofs.Math.Path.{refl, ap, ap₂, fun_ext}
 use Rattle.std.proofs.Common.{sym, subst, ◌∙◌}
 use Rattle.std.proofs.Math.Bool.{Bool, true, false, ◌||◌, and_assoc, and_comm, and-eq-true_iff}
 use mathlib.Core.List.{List, [], ◌∷◌, map}
-use Rattle.std.proofs.Math.Option.{none, some}
 use Prim.Native.Nat.{ℕ, zero, suc, ◌+◌, ◌-◌, ◌*◌, ◌/◌, ◌%◌, ◌≤◌}
 use borrow.Author.Tests.{leb-true}
 use Rattle.std.proofs.Math.Dec.{leb, ltb}
@@ -54,7 +53,7 @@ module _ {A : Type 0} where
   find-some p [] = refl
   find-some p (x ∷ xs) = go (p x) ∙ ap (λ (b : Bool). p x || b) (find-some p xs)
     where
-      go : (b : Bool) → is_some (or_else (cond b (some x) none) (find p xs)) ≡ (b || is_some (find p xs))
+      go : (b : Bool) → is_some (or_else (cond b (Some x) None) (find p xs)) ≡ (b || is_some (find p xs))
       go true = refl
       go false = refl
 

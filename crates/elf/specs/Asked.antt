@@ -1,17 +1,18 @@
 -- What the index's functions ask and say, of the layout of a file that passes.
-use Rattle.std.specs.Prelude.{◌≡◌, Bool, true, List, ◌++◌, ℕ, ◌+◌, ◌*◌, ◌≤◌, length}
+use Rattle.std.specs.Prelude.{◌≡◌, true, false, List, ◌++◌, ℕ, ◌+◌, ◌*◌, ◌≤◌, length, ⊤, Result, MatchResult}
 use Rattle.std.proofs.Math.Path.{refl, sym, ap}
 use Rattle.std.proofs.Common.{◌∙◌}
 use native.Mathlib.Omega.{arith}
 use Rattle.lists.specs.Tab.{tab, rows}
 use Rattle.model.specs.declared.Endianness.{Endianness}
+use Rattle.model.specs.declared.Refusal.{Refusal}
 use Rattle.model.specs.Elf.{file_of}
 use Rattle.model.specs.ElfRefusals.{section_names_ok, entries_of}
 use Rattle.elf_header.specs.declared.Headers.{Headers}
 use Rattle.elf_header.specs.Headers.{file_header_of, headers_of, headers_in}
 use Rattle.elf_header.specs.Used.{used_in, places_for}
 use Rattle.elf_layout.specs.declared.Layout.{Layout}
-use Rattle.elf_layout.specs.Layout.{table_number, elf_view, layout_of}
+use Rattle.elf_layout.specs.Layout.{table_number, elf_view, layout_of, file_refusal}
 use Rattle.elf_names.specs.Lengths.{strings_ok, string_lengths}
 use Rattle.elf_relocations.specs.Placing.{Placeable}
 use Rattle.elf_object.specs.Inside.{TablesRuled, tables-ruled, tables-in-use, section-strings, symbol-strings, headers-inside, symbols-inside}
@@ -21,13 +22,16 @@ use Rattle.elf.specs.Names.{symbols_ok}
 use Rattle.elf.specs.Index.{section_part, symbol_part, relocation_part}
 use Rattle.elf.specs.Opened.{Passes}
 
--- what `name_lengths` asks
+-- what `index_names` asks
 abbrev pub NamesAsk : List ℕ → ℕ → ℕ → ℕ → ℕ → ℕ → Type 0
 NamesAsk f at width s e n = (at + width * n ≤ length f) × (4 ≤ width) × (s ≤ e) × (e ≤ length f) × (length f ≤ 16777216)
 
 -- what it says
-abbrev pub NamesSaid : Endianness → List ℕ → ℕ → ℕ → ℕ → ℕ → ℕ → Bool → List ℕ → Type 0
-NamesSaid o f at width s e n r z = (r ≡ strings_ok o f at width s e n) × (r ≡ true → z ≡ string_lengths o f at width s e n)
+abbrev pub NamesTold : Endianness → List ℕ → ℕ → ℕ → ℕ → ℕ → ℕ → List ℕ → Result ⊤ Refusal → Type 0
+NamesTold o f at width s e n z r =
+    MatchResult r
+    (λ _. (strings_ok o f at width s e n ≡ true) × (z ≡ string_lengths o f at width s e n))
+    (λ x. (x ≡ file_refusal 26) × (strings_ok o f at width s e n ≡ false))
 
 module _ (f : List ℕ) (l : Layout) (p : Passes f l) where
   ruled-tables : TablesRuled f (file_of f)
@@ -45,31 +49,47 @@ module _ (f : List ℕ) (l : Layout) (p : Passes f l) where
       let s = symbol-strings f ruled-tables in
       (symbols-inside f ruled-tables, omega arith, s.rises, s.inside, ruled-tables.short)
 
-  pub sections-ask : (at s e n : ℕ) → at ≡ l.view.at.sections → s ≡ l.view.strings.sections → e ≡ l.ends.sections → n ≡ l.view.sections → NamesAsk f at 64 s e n
-  sections-ask at s e n a b c d = rw (a, b, c, d, p.layout) file-sections
+  file-section-names : strings_ok (layout_of f).view.order f (layout_of f).view.at.sections 64 (layout_of f).view.strings.sections (layout_of f).ends.sections (layout_of f).view.sections
+      ≡ section_names_ok f (file_of f)
+  unfolding layout_of elf_view
+  file-section-names = sym (section-names-pass f ruled-tables)
 
-  pub symbols-ask : (at s e n : ℕ) → at ≡ l.view.at.symbols → s ≡ l.view.strings.symbols → e ≡ l.ends.symbols → n ≡ l.view.symbols → NamesAsk f at 24 s e n
-  symbols-ask at s e n a b c d = rw (a, b, c, d, p.layout) file-symbols
+  file-symbol-names : strings_ok (layout_of f).view.order f (layout_of f).view.at.symbols 24 (layout_of f).view.strings.symbols (layout_of f).ends.symbols (layout_of f).view.symbols
+      ≡ symbols_ok f (file_of f)
+  unfolding layout_of elf_view
+  file-symbol-names = sym (symbol-names-pass f ruled-tables)
 
-  said-sections : (r : Bool) (z : List ℕ)
-      → NamesSaid (layout_of f).view.order f (layout_of f).view.at.sections 64 (layout_of f).view.strings.sections (layout_of f).ends.sections (layout_of f).view.sections r z
-      → (r ≡ section_names_ok f (file_of f)) × (r ≡ true → z ≡ section_part f)
+  file-section-lengths : string_lengths (layout_of f).view.order f (layout_of f).view.at.sections 64 (layout_of f).view.strings.sections (layout_of f).ends.sections (layout_of f).view.sections
+      ≡ section_part f
   unfolding layout_of elf_view section_part
-  said-sections r z w = (w.0 ∙ sym (section-names-pass f ruled-tables), w.1)
+  file-section-lengths = refl
 
-  said-symbols : (r : Bool) (z : List ℕ)
-      → NamesSaid (layout_of f).view.order f (layout_of f).view.at.symbols 24 (layout_of f).view.strings.symbols (layout_of f).ends.symbols (layout_of f).view.symbols r z
-      → (r ≡ symbols_ok f (file_of f)) × (r ≡ true → z ≡ symbol_part f)
+  file-symbol-lengths : string_lengths (layout_of f).view.order f (layout_of f).view.at.symbols 24 (layout_of f).view.strings.symbols (layout_of f).ends.symbols (layout_of f).view.symbols
+      ≡ symbol_part f
   unfolding layout_of elf_view symbol_part
-  said-symbols r z w = (w.0 ∙ sym (symbol-names-pass f ruled-tables), w.1)
+  file-symbol-lengths = refl
 
-  pub sections-said : (at s e n : ℕ) (r : Bool) (z : List ℕ) → at ≡ l.view.at.sections → s ≡ l.view.strings.sections → e ≡ l.ends.sections → n ≡ l.view.sections
-      → NamesSaid l.view.order f at 64 s e n r z → (r ≡ section_names_ok f (file_of f)) × (r ≡ true → z ≡ section_part f)
-  sections-said at s e n r z a b c d w = said-sections r z (rw (a, b, c, d, p.layout) at w)
+-- the sections' names by the layout
+module _ (f : List ℕ) (l : Layout) (p : Passes f l) (n : ℕ) (e : n ≡ l.view.sections) where
+  pub sections-ask : NamesAsk f l.view.at.sections 64 l.view.strings.sections l.ends.sections n
+  sections-ask = rw (e, p.layout) (file-sections f l p)
 
-  pub symbols-said : (at s e n : ℕ) (r : Bool) (z : List ℕ) → at ≡ l.view.at.symbols → s ≡ l.view.strings.symbols → e ≡ l.ends.symbols → n ≡ l.view.symbols
-      → NamesSaid l.view.order f at 24 s e n r z → (r ≡ symbols_ok f (file_of f)) × (r ≡ true → z ≡ symbol_part f)
-  symbols-said at s e n r z a b c d w = said-symbols r z (rw (a, b, c, d, p.layout) at w)
+  pub section-names : strings_ok l.view.order f l.view.at.sections 64 l.view.strings.sections l.ends.sections n ≡ section_names_ok f (file_of f)
+  section-names = rw (e, p.layout) (file-section-names f l p)
+
+  pub section-lengths : string_lengths l.view.order f l.view.at.sections 64 l.view.strings.sections l.ends.sections n ≡ section_part f
+  section-lengths = rw (e, p.layout) (file-section-lengths f l p)
+
+-- and those of symbols
+module _ (f : List ℕ) (l : Layout) (p : Passes f l) (n : ℕ) (e : n ≡ l.view.symbols) where
+  pub symbols-ask : NamesAsk f l.view.at.symbols 24 l.view.strings.symbols l.ends.symbols n
+  symbols-ask = rw (e, p.layout) (file-symbols f l p)
+
+  pub symbol-names : strings_ok l.view.order f l.view.at.symbols 24 l.view.strings.symbols l.ends.symbols n ≡ symbols_ok f (file_of f)
+  symbol-names = rw (e, p.layout) (file-symbol-names f l p)
+
+  pub symbol-lengths : string_lengths l.view.order f l.view.at.symbols 24 l.view.strings.symbols l.ends.symbols n ≡ symbol_part f
+  symbol-lengths = rw (e, p.layout) (file-symbol-lengths f l p)
 
 -- ---- the relocations
 
@@ -81,15 +101,15 @@ module _ (f : List ℕ) (l : Layout) (p : Passes f l) where
   r = tables-ruled f (file_of f) p.tables
 
   -- the headers by the layout
-  abbrev pub headers_from : ℕ → Headers
-  headers_from at = record { order = l.view.order; first = at; sections = l.view.sections }
+  abbrev pub layout_headers : Headers
+  layout_headers = record { order = l.view.order; first = l.view.at.sections; sections = l.view.sections }
 
   headers-are : record { order = (layout_of f).view.order; first = (layout_of f).view.at.sections; sections = (layout_of f).view.sections } ≡ headers_in f
   unfolding layout_of elf_view headers_of file_header_of
   headers-are = refl
 
-  layout-headers : headers_from l.view.at.sections ≡ headers_in f
-  layout-headers = rw p.layout headers-are
+  layout-headers-are : layout_headers ≡ headers_in f
+  layout-headers-are = rw p.layout headers-are
 
   table_is : (layout_of f).table ≡ number
   unfolding layout_of
@@ -106,17 +126,17 @@ module _ (f : List ℕ) (l : Layout) (p : Passes f l) where
   unfolding layout_of elf_view
   file-count = refl
 
-  pub relocations-ask : (at n : ℕ) → at ≡ l.view.at.sections → n ≡ 2 * l.view.sections + l.view.relocations → Placeable f (headers_from at) l.table n
-  relocations-ask at n a e =
-      rw (a, layout-headers, layout-table)
+  pub relocations-ask : (n : ℕ) → n ≡ 2 * l.view.sections + l.view.relocations → Placeable f layout_headers l.table n
+  relocations-ask n e =
+      rw (layout-headers-are, layout-table)
       (record {
         tables = tables-placeable f r;
         whole = e ∙ rw (p.layout, file-count, ← file-relocations);
       })
 
-  pub relocations-said : (at : ℕ) (z : List ℕ) → at ≡ l.view.at.sections
-      → z ≡ tab (λ i. length (rows (places_for f (headers_from at) l.table) i)) (headers_from at).sections
-      ++ (tab (λ i. length (places_for f (headers_from at) l.table i)) (headers_from at).sections ++ rows (places_for f (headers_from at) l.table) (headers_from at).sections)
+  pub relocations-said : (z : List ℕ)
+      → z ≡ tab (λ i. length (rows (places_for f layout_headers l.table) i)) layout_headers.sections
+      ++ (tab (λ i. length (places_for f layout_headers l.table i)) layout_headers.sections ++ rows (places_for f layout_headers l.table) layout_headers.sections)
       → z ≡ relocation_part f
   unfolding relocation_part
-  relocations-said at z a e = e ∙ rw (a, layout-headers, layout-table, p.layout, file-count)
+  relocations-said z e = e ∙ rw (layout-headers-are, layout-table, p.layout, file-count)

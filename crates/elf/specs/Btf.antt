@@ -1,10 +1,9 @@
 -- '3. A section is named `.BTF`', by a walk over the sections.
-use Rattle.std.specs.Prelude.{◌≡◌, Bool, cond, ◌||◌, ℕ, ◌+◌, ◌<◌, ◌≤◌, drop}
+use Rattle.std.specs.Prelude.{◌≡◌, Bool, cond, ◌||◌, ℕ, ◌+◌, ◌<◌, ◌≤◌, drop, None, Some}
 use Rattle.std.proofs.Math.Path.{refl, ap}
 use Rattle.std.proofs.Common.{◌∙◌}
 use Rattle.std.proofs.Math.Bool.{true, false}
 use mathlib.Core.List.{List, ◌∷◌}
-use Rattle.std.proofs.Math.Option.{none, some}
 use Rattle.lists.specs.Tab.{tab}
 use Rattle.lists.specs.Walk.{drop-tab-next, drop-tab-none}
 use Rattle.model.specs.Bytes.{ascii, same, or_else, first_in, find, is_some}
@@ -25,7 +24,7 @@ module _ (d t : List ℕ) (v : View) where
   unfolding find first_in
   found-next s ss = go (named_btf s)
     where
-      go : (b : Bool) → is_some (or_else (cond b (some s) none) (find named_btf ss)) ≡ (b || is_some (find named_btf ss))
+      go : (b : Bool) → is_some (or_else (cond b (Some s) None) (find named_btf ss)) ≡ (b || is_some (find named_btf ss))
       go true = refl
       go false = refl
 

@@ -5,7 +5,7 @@ use Rattle.std.proofs.Math.Path.{ap}
 use mathlib.Core.List.{List, ◌++◌, append_assoc}
 use Prim.Native.Nat.{ℕ}
 use Rattle.std.proofs.Math.ListN.{length}
-use Rattle.lists.specs.Tab.{tab, tab-ext, rows, length-tab}
+use Rattle.lists.specs.Tab.{tab, tab-ext, rows}
 use Rattle.model.specs.Elf.{file_of, string_at}
 use Rattle.elf_header.specs.Headers.{headers_in}
 use Rattle.elf_layout.specs.Layout.{elf_view, layout_of}
@@ -24,14 +24,6 @@ module _ (f : List ℕ) where
 
   unfoldable pub relocation_part : List ℕ
   relocation_part = first_places f ++ (place_counts f ++ rows (file_places f) (headers_in f).sections)
-
-  pub length-sections : length section_part ≡ (headers_in f).sections
-  unfolding section_part
-  length-sections = length-tab _ (headers_in f).sections
-
-  pub length_symbols : length symbol_part ≡ (elf_view f).symbols
-  unfolding symbol_part
-  length_symbols = length-tab _ (elf_view f).symbols
 
   module _ (r : TablesRuled f (file_of f)) where
     sections-are : section_part ≡ tab (section_name_length f) (headers_in f).sections

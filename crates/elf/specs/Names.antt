@@ -1,10 +1,9 @@
 -- All of 26 by 26 but for the names, and the names.
-use Rattle.std.specs.Prelude.{◌≡◌, refl, Bool, true, false, ◌&&◌, ◌||◌, List, ℕ, ◌*◌, eqb, leb, length}
+use Rattle.std.specs.Prelude.{◌≡◌, refl, Bool, true, false, ◌&&◌, ◌||◌, List, ℕ, ◌*◌, eqb, leb, length, None, Option, Some}
 use Rattle.std.proofs.Common.{ap, ◌∙◌}
-use Rattle.std.proofs.Math.Option.{Option, none, some}
 use Rattle.model.specs.Bytes.{maybe, inside}
 use Rattle.model.specs.Deposit.{all}
-use Rattle.model.specs.Elf.{Header, whole_entries, File}
+use Rattle.model.specs.Elf.{Header, whole_entries, File, file_of}
 use Rattle.model.specs.ElfRefusals.{header_ok, links_strings, section_names_ok, symbol_table_ok, reloc_table_ok, limits_ok, rules_ok}
 use Rattle.elf_layout.specs.Layout.{tables_ok}
 
@@ -12,12 +11,16 @@ use Rattle.elf_layout.specs.Layout.{tables_ok}
 abbrev pub symbols_ok : List ℕ → File → Bool
 symbols_ok f p = maybe p.symbols true (symbol_table_ok f p)
 
+-- 26 on all names
+abbrev pub names_ok : List ℕ → Bool
+names_ok f = section_names_ok f (file_of f) && symbols_ok f (file_of f)
+
 -- what passes with its names passes without them
 symbols-more : (f : List ℕ) (p : File) (y : Option Header)
     → maybe y true (symbol_table_ok f p) ≡ (maybe y true (λ t. links_strings p.sections t.link && whole_entries t) && maybe y true (symbol_table_ok f p))
 unfolding symbol_table_ok
-symbols-more f p none = refl
-symbols-more f p (some t) = go (links_strings p.sections t.link) (whole_entries t) _
+symbols-more f p None = refl
+symbols-more f p (Some t) = go (links_strings p.sections t.link) (whole_entries t) _
   where
     go : (a b c : Bool) → (a && (b && c)) ≡ ((a && b) && (a && (b && c)))
     go true true c = refl

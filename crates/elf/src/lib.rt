@@ -1,27 +1,29 @@
 // A file that was checked is opened: its names and relocations are indexed, and number 3.
 #![tactic(auto)]
 
-ghost use Rattle.std.specs.Prelude.{◌≡◌, true, ◌+◌, ◌*◌, ◌≤◌, length};
+ghost use Rattle.std.specs.Prelude.{◌≡◌, ◌+◌, ◌*◌, ◌≤◌, length};
 ghost use Rattle.model.specs.Deposit.{has_btf};
-ghost use Rattle.model.specs.Elf.{file_of};
-ghost use Rattle.model.specs.ElfRefusals.{section_names_ok};
 ghost use Rattle.object.specs.View.{section_in, object_in};
 ghost use Rattle.elf_layout.specs.Layout.{file_refusal, checked_file};
 ghost use Rattle.elf.specs.Opened.{layout_length, index_length, FileOpened, Passes};
-ghost use Rattle.elf.specs.Names.{symbols_ok};
-ghost use Rattle.elf.specs.Index.{section_part, symbol_part, relocation_part};
-ghost use Rattle.elf.specs.Told.{Indexes};
+ghost use Rattle.elf.specs.Index.{relocation_part};
+ghost use Rattle.elf.specs.Asked.{NamesAsk, NamesTold};
+ghost use Rattle.elf.specs.Told.{IndexTold};
 ghost use Rattle.elf.specs.Btf.{named_btf};
 
-use elf_header::Headers;
-use elf_layout::{FileCheck, Layout};
-use elf_names::name_lengths;
+use elf_header::{Headers, Sections};
+use elf_layout::Layout;
+use elf_names::{NamedRecords, StringTable, name_lengths};
 use elf_relocations::place_relocations;
-use model::{Refusal, SectionIndex, SymbolIndex};
+use model::{Endianness, Refusal, SectionIndex, SymbolIndex};
 use names::same;
-use object_view::{Opened, View};
-use records::{Cursor, Step, gap, name_at, section_name};
-use stream::size;
+use object_view::View;
+use records::{Cursor, name, section_name};
+
+// How many bytes a section header and a symbol have.
+const HEADER_SIZE: usize = 64;
+
+const SYMBOL_SIZE: usize = 24;
 
 fn refusal(number: u32) -> Refusal
     ensures { result ≡ file_refusal number }
@@ -34,83 +36,71 @@ fn refusal(number: u32) -> Refusal
     }
 }
 
+#[tactic(auto, unfolding(object::specs::View::section_from))]
 fn is_btf(d: &[u8], t: &[u32], v: View, i: u32) -> bool
     ensures { result ≡ named_btf (section_in d.now t.now v i) }
 {
-    let e = section_name(d, t, v, i);
-    let word = [46u8, 66, 84, 70];
-    same(d, gap(v), name_at(v, e), size(e.length), &word)
+    same(name(d, v, section_name(d, t, v, i)), b".BTF")
 }
 
 // Tells whether a section is named `.BTF`.
+#[tactic(auto, using(crate::proofs::Rules::walk))]
 fn has_btf(d: &[u8], t: &[u32], v: View) -> bool
     ensures { result ≡ has_btf (object_in d.now t.now v) }
 {
     let mut c = Cursor::new(v.sections);
-    loop {
-        match c.next() {
-            Step::Record(i, next) => {
-                if is_btf(d, t, v, i) {
-                    return true;
-                }
-                c = next;
-            }
-            Step::End => {
-                return false;
-            }
+    while let Some((i, next)) = c.next() {
+        if is_btf(d, t, v, i) {
+            return true;
         }
+        c = next;
     }
+    false
 }
 
 // How many numbers the index of a file has.
-pub fn index_length(checked: FileCheck) -> usize
+pub fn index_length(checked: Result<Layout, Refusal>) -> usize
     ensures { result ≡ index_length checked }
 {
     match checked {
-        FileCheck::Refused(_) => 0,
-        FileCheck::Layout(l) => 3 * size(l.view.sections)
-            + size(l.view.symbols)
-            + size(l.view.relocations),
+        Err(_) => 0,
+        Ok(l) => {
+            3 * l.view.sections as usize + l.view.symbols as usize + l.view.relocations as usize
+        }
     }
 }
 
 // ---- the index
 
-// The lengths of the sections' names; false where a name breaks a rule.
-fn index_section_names(d: &[u8], l: Layout, t: &mut [u32]) -> bool
-    requires { Passes d.now l × (length t.old ≡ l.view.sections) }
-    ensures { (result ≡ section_names_ok d.now (file_of d.now))
-        × (result ≡ true → t.new ≡ section_part d.now) }
+// Stores the lengths of the names of records of one width, whose names lie from `start` up to `end`.
+fn index_names(
+    d: &[u8],
+    order: Endianness,
+    at: u32,
+    width: usize,
+    start: u32,
+    end: u32,
+    t: &mut [u32],
+) -> Result<(), Refusal>
+    requires { NamesAsk d.now at width start end (length t.old) }
+    ensures { NamesTold order d.now at width start end (length t.old) t.new result }
 {
-    let v = l.view;
-    let order = v.order;
-    name_lengths(
-        d,
+    let names = StringTable {
+        bytes: d,
+        start: start as usize,
+        end: end as usize,
+    };
+    let records = NamedRecords {
         order,
-        size(v.at.sections),
-        64,
-        size(v.strings.sections),
-        size(l.ends.sections),
-        t,
-    )
-}
-
-fn index_symbol_names(d: &[u8], l: Layout, t: &mut [u32]) -> bool
-    requires { Passes d.now l × (length t.old ≡ l.view.symbols) }
-    ensures { (result ≡ symbols_ok d.now (file_of d.now))
-        × (result ≡ true → t.new ≡ symbol_part d.now) }
-{
-    let v = l.view;
-    let order = v.order;
-    name_lengths(
-        d,
-        order,
-        size(v.at.symbols),
-        24,
-        size(v.strings.symbols),
-        size(l.ends.symbols),
-        t,
-    )
+        at: at as usize,
+        width,
+        names,
+    };
+    if name_lengths(records, t) {
+        Ok(())
+    } else {
+        Err(refusal(26))
+    }
 }
 
 // Where the relocations of each section lie.
@@ -118,55 +108,54 @@ fn index_relocations(d: &[u8], l: Layout, t: &mut [u32])
     requires { Passes d.now l × (length t.old ≡ 2 * l.view.sections + l.view.relocations) }
     ensures { t.new ≡ relocation_part d.now }
 {
-    let v = l.view;
-    let order = v.order;
-    let h = Headers {
-        order,
-        first: size(v.at.sections),
-        sections: v.sections,
+    let headers = Headers {
+        order: l.view.order,
+        first: l.view.at.sections as usize,
+        sections: l.view.sections,
     };
-    place_relocations(d, h, l.table, t);
+    place_relocations(Sections { bytes: d, headers }, l.table, t);
 }
 
-// All of the index, from the front of t on; false where a name breaks a rule.
-fn index(d: &[u8], l: Layout, t: &mut [u32]) -> bool
+// All of the index, from the front of t on.
+fn index(d: &[u8], l: Layout, t: &mut [u32]) -> Result<(), Refusal>
     requires { Passes d.now l × (layout_length l ≤ length t.old) }
-    ensures { Indexes d.now result t.new }
-{
-    let s = size(l.view.sections);
-    let y = s + size(l.view.symbols);
-    let end = y + 2 * s + size(l.view.relocations);
-    if !index_section_names(d, l, &mut t[0..s]) {
-        return false;
-    }
-    if !index_symbol_names(d, l, &mut t[s..y]) {
-        return false;
-    }
-    index_relocations(d, l, &mut t[y..end]);
-    true
-}
-
-fn open_layout(d: &[u8], l: Layout, t: &mut [u32]) -> Opened
-    requires { Passes d.now l × (layout_length l ≤ length t.old) }
-    ensures { FileOpened d.now t.new result }
+    ensures { IndexTold d.now t.new result }
 {
     let v = l.view;
-    if !index(d, l, t) {
-        return Opened::Refused(refusal(26));
-    }
-    if has_btf(d, t, v) {
-        return Opened::Refused(refusal(3));
-    }
-    Opened::View(v)
+    let sections = v.sections as usize;
+    let (section_names, rest) = t.split_at_mut(sections);
+    let (symbol_names, rest) = rest.split_at_mut(v.symbols as usize);
+    index_names(
+        d,
+        v.order,
+        v.at.sections,
+        HEADER_SIZE,
+        v.strings.sections,
+        l.ends.sections,
+        section_names,
+    )?;
+    index_names(
+        d,
+        v.order,
+        v.at.symbols,
+        SYMBOL_SIZE,
+        v.strings.symbols,
+        l.ends.symbols,
+        symbol_names,
+    )?;
+    index_relocations(d, l, &mut rest[..2 * sections + v.relocations as usize]);
+    Ok(())
 }
 
 // Opens a file that was checked, with its index in t.
-pub fn open(d: &[u8], checked: FileCheck, t: &mut [u32]) -> Opened
+pub fn open(d: &[u8], checked: Result<Layout, Refusal>, t: &mut [u32]) -> Result<View, Refusal>
     requires { (checked ≡ checked_file d.now) × (index_length checked ≤ length t.old) }
     ensures { FileOpened d.now t.new result }
 {
-    match checked {
-        FileCheck::Refused(r) => Opened::Refused(r),
-        FileCheck::Layout(l) => open_layout(d, l, t),
+    let l = checked?;
+    index(d, l, t)?;
+    if has_btf(d, t, l.view) {
+        return Err(refusal(3));
     }
+    Ok(l.view)
 }

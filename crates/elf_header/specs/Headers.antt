@@ -14,10 +14,14 @@ use Rattle.elf_header.specs.declared.Headers.{Headers}
 abbrev pub header_in : List ℕ → Headers → ℕ → Header
 header_in f h i = header_of h.order (1 + i) (part f (h.first + 64 * i) 64)
 
--- a field of w bytes at byte k of a header, where it lies in the file
-pub header-field : (f : List ℕ) (h : Headers) (i k w : ℕ) → k + w ≤ 64
-    → number h.order (part f (h.first + 64 * i + k) w) ≡ field h.order (part f (h.first + 64 * i) 64) k w
-header-field f h i k w l = ap (number h.order) (sym (part-part f (h.first + 64 * i) 64 k w l))
+-- the field of w bytes at byte k of a header
+abbrev pub header_field : List ℕ → Headers → ℕ → ℕ → ℕ → ℕ
+header_field f h i k w = field h.order (part f (h.first + 64 * i) 64) k w
+
+-- where it lies in the file
+pub field_in_file : (f : List ℕ) (h : Headers) (i k w : ℕ) → k + w ≤ 64
+    → number h.order (part f (h.first + 64 * i + k) w) ≡ header_field f h i k w
+field_in_file f h i k w l = ap (number h.order) (sym (part-part f (h.first + 64 * i) 64 k w l))
 
 -- e_shnum, where there is a section header table
 abbrev pub entries_at : List ℕ → Endianness → ℕ → ℕ

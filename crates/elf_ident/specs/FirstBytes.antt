@@ -1,17 +1,13 @@
 -- Number 25 byte by byte: a field's bytes as far as they are present.
-use Rattle.std.specs.Prelude.{◌≡◌, refl, Bool, true, false, cond, ◌&&◌, ℕ, zero, suc, ◌+◌, ◌-◌, ◌<◌, ◌≤◌, eqb, ltb, length, get_or, take, drop, set, replicate}
-use Rattle.std.proofs.Common.{ap, ◌∙◌, not-suc-le-zero, le_of_suc-le-suc, mod-eq_of_lt, add-one, arith, ltb-true, ltb-false, length-set, drop_of_length-le, length-take-le, drop-cons, take-suc-set}
+use Rattle.std.specs.Prelude.{◌≡◌, refl, Bool, ◌&&◌, ℕ, zero, suc, ◌-◌, ◌<◌, ◌≤◌, eqb, length, take, set, replicate}
+use Rattle.std.specs.Cmp.Lexicographic.{pointwise}
+use Rattle.std.proofs.Common.{ap, ◌∙◌, not-suc-le-zero, le_of_suc-le-suc, mod-eq_of_lt, add-one, arith, length-set, length-take-le, take-suc-set}
 use mathlib.Core.List.{List, [], ◌∷◌, reverse, reverse-cons}
 use Rattle.std.proofs.Math.Nat.{div-eq_of_lt}
-use Rattle.std.proofs.lemmas.List.{length-replicate, replicate-append-replicate}
-use Rattle.std.proofs.Math.Seq.{take-nil}
+use Rattle.std.proofs.lemmas.List.{length-replicate, replicate-append-replicate, take-replicate}
 use Rattle.model.specs.declared.Endianness.{Endianness}
 use Rattle.model.specs.Bytes.{part, starts_with, little_bytes}
 use Rattle.model.specs.ElfRefusals.{field_bytes, field_is, first_seven}
-
--- a byte that is present is that one
-unfoldable pub byte_is : List ℕ → ℕ → ℕ → Bool
-byte_is f p b = cond (ltb p (length f)) (eqb (get_or f p 0) b) true
 
 -- the sixth byte tells the order
 unfoldable pub order_mark : Endianness → ℕ
@@ -31,34 +27,18 @@ first_bytes_ok f o =
     && (field_is o 2 247 (part f 18 2)
     && field_is o 2 64 (part f 58 2)))
 
-pub first_seven-mark : (o : Endianness) → first_seven o ≡ 127 ∷ 69 ∷ 76 ∷ 70 ∷ 2 ∷ order_mark o ∷ 1 ∷ []
+pub first_seven_mark : (o : Endianness) → first_seven o ≡ 127 ∷ 69 ∷ 76 ∷ 70 ∷ 2 ∷ order_mark o ∷ 1 ∷ []
 unfolding order_mark
-first_seven-mark Endianness.Little = refl
-first_seven-mark Endianness.Big = refl
+first_seven_mark Endianness.Little = refl
+first_seven_mark Endianness.Big = refl
 
--- ---- what is present agrees where its first byte does and the rest does
+-- ---- what is present is compared element by element
 
-pub starts-next : (f : List ℕ) (p n b : ℕ) (bs : List ℕ)
-    → starts_with (part f p (suc n)) (b ∷ bs) ≡ (byte_is f p b && starts_with (part f (suc p) n) bs)
-unfolding starts_with byte_is
-starts-next f p n b bs = go (ltb p (length f)) refl
-  where
-    go : (t : Bool) → ltb p (length f) ≡ t
-        → starts_with (part f p (suc n)) (b ∷ bs) ≡ (cond t (eqb (get_or f p 0) b) true && starts_with (part f (suc p) n) bs)
-    go true e = rw (drop-cons f p 0 (ltb-true p (length f) e))
-    go false e =
-        let h : length f ≤ p = ltb-false p (length f) e in
-        let k : length f ≤ suc p = omega arith in
-        rw (drop_of_length-le f h, drop_of_length-le f k, take-nil n)
-
--- a walk over s is at i
-pub starts_from : (f s : List ℕ) (p i : ℕ) → i < length s
-    → starts_with (part f (p + i) (length s - i)) (drop i s)
-    ≡ (byte_is f (p + i) (get_or s i 0) && starts_with (part f (p + (i + 1)) (length s - (i + 1))) (drop (i + 1) s))
-starts_from f s p i h =
-    let e : length s - i ≡ suc (length s - (i + 1)) = omega arith in
-    let q : p + (i + 1) ≡ suc (p + i) = omega arith in
-    rw (e, q, add-one, drop-cons s i 0 h) (starts-next f (p + i) (length s - suc i) (get_or s i 0) (drop (suc i) s))
+pub starts_pointwise : (xs ys : List ℕ) → starts_with xs ys ≡ pointwise eqb xs (take (length xs) ys)
+unfolding starts_with
+starts_pointwise [] ys = refl
+starts_pointwise (x ∷ xs) [] = refl
+starts_pointwise (x ∷ xs) (y ∷ ys) = ap (λ (b : Bool). eqb x y && b) (starts_pointwise xs ys)
 
 -- ---- the bytes of a number below 256 are zeros, but for the lowest
 
@@ -70,11 +50,6 @@ little-zero (suc n) = ap (λ (l : List ℕ). 0 ∷ l) (little-zero n)
 little-small : (n x : ℕ) → x < 256 → little_bytes (suc n) x ≡ x ∷ replicate n 0
 unfolding little_bytes
 little-small n x h = rw (mod-eq_of_lt h, div-eq_of_lt h, little-zero n)
-
-take-replicate : (n m a : ℕ) → n ≤ m → take n (replicate m a) ≡ replicate n a
-take-replicate zero m a h = refl
-take-replicate (suc n) zero a h = absurd (not-suc-le-zero h)
-take-replicate (suc n) (suc m) a h = ap (λ (l : List ℕ). a ∷ l) (take-replicate n m a (le_of_suc-le-suc h))
 
 reverse-replicate : (n a : ℕ) → reverse (replicate n a) ≡ replicate n a
 reverse-replicate zero a = refl
@@ -90,7 +65,7 @@ pub lone-byte : (o : Endianness) (w m x : ℕ) → 0 < w → w ≤ m → x < 256
 unfolding field_bytes low_place
 lone-byte o zero m x h k l = absurd (not-suc-le-zero h)
 lone-byte o (suc n) zero x h k l = absurd (not-suc-le-zero k)
-lone-byte Endianness.Little (suc n) (suc m) x h k l = rw (little-small n x l, take-replicate n m 0 (le_of_suc-le-suc k))
+lone-byte Endianness.Little (suc n) (suc m) x h k l = rw (little-small n x l, take-replicate {X = ℕ} n m 0 (le_of_suc-le-suc k))
 lone-byte Endianness.Big (suc n) (suc m) x h k l =
     let e : suc n - 1 ≡ n = omega arith in
     let g : n < length {A = ℕ} (replicate (suc m) 0) = rw length-replicate k in
@@ -100,7 +75,7 @@ lone-byte Endianness.Big (suc n) (suc m) x h k l =
       reverse-replicate n 0,
       e,
       take-suc-set (replicate (suc m) 0) n x g,
-      take-replicate n (suc m) 0 (omega arith),
+      take-replicate {X = ℕ} n (suc m) 0 (omega arith),
     )
 
 pub length-lone : (w m i x : ℕ) → w ≤ m → length (take w (set (replicate m 0) i x)) ≡ w

@@ -1,5 +1,5 @@
 -- What is known of a file that passes 25 and all of 26 but its names: the view of it, where its string tables end, and its symbol table's number.
-use Rattle.std.specs.Prelude.{Bool, true, cond, ◌&&◌, ◌||◌, List, ℕ, ◌+◌, ◌-◌, ◌*◌, eqb, leb, length}
+use Rattle.std.specs.Prelude.{Bool, true, cond, ◌&&◌, ◌||◌, List, ℕ, ◌+◌, ◌-◌, ◌*◌, eqb, leb, length, Result, Ok, Err}
 use Rattle.model.specs.declared.Refusal.{Refusal}
 use Rattle.model.specs.Bytes.{maybe, inside}
 use Rattle.model.specs.Deposit.{all}
@@ -10,7 +10,6 @@ use Rattle.object_view.specs.declared.Form.{Form}
 use Rattle.object_view.specs.declared.View.{View}
 use Rattle.elf_header.specs.Headers.{headers_in}
 use Rattle.elf_layout.specs.declared.Layout.{Layout}
-use Rattle.elf_layout.specs.declared.FileCheck.{FileCheck}
 
 -- 26 but for the names
 unfoldable pub tables_ok : List ℕ → File → Bool
@@ -75,8 +74,9 @@ layout_of f =
 abbrev pub file_refusal : ℕ → Refusal
 file_refusal n = record { number = n; section = no_section; symbol = no_symbol; entry = 0 }
 
-unfoldable pub checked_file : List ℕ → FileCheck
+-- what checking a file answers: its layout, or why it is refused
+unfoldable pub checked_file : List ℕ → Result Layout Refusal
 checked_file f =
     cond (kind_ok f (file_of f))
-    (cond (tables_ok f (file_of f)) (FileCheck.Layout (layout_of f)) (FileCheck.Refused (file_refusal 26)))
-    (FileCheck.Refused (file_refusal 25))
+    (cond (tables_ok f (file_of f)) (Ok (layout_of f)) (Err (file_refusal 26)))
+    (Err (file_refusal 25))

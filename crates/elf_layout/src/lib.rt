@@ -1,7 +1,6 @@
 // How a file that passes 25 and all of 26 but its names lies in its bytes.
 #![tactic(auto)]
 
-use model::Refusal;
 use object_view::{Strings, View};
 
 // The view of it, where its two string tables end, and the number of its symbol table, 0 where it has none.
@@ -10,11 +9,4 @@ pub struct Layout {
     pub view: View,
     pub ends: Strings,
     pub table: u32,
-}
-
-// What checking a file answers: its layout, or why it is refused.
-#[derive(Clone, Copy)]
-pub enum FileCheck {
-    Layout(Layout),
-    Refused(Refusal),
 }

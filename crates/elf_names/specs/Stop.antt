@@ -1,24 +1,16 @@
 -- Where the letters from a place on stop. Names that share bytes stop at the same place.
-use Rattle.std.specs.Prelude.{◌≡◌, refl, Bool, true, false, cond, List, [], ◌∷◌, ℕ, zero, suc, ◌+◌, ◌-◌, ◌<◌, ◌≤◌, eqb, leb, length, get_or, take}
-use Rattle.std.proofs.Common.{sym, ap, ◌∙◌, le_refl, add-zero, not-suc-le-zero, le_of_suc-le-suc, le-leb, eq-eqb, ne_eqb}
+use Rattle.std.specs.Prelude.{◌≡◌, refl, Bool, true, false, cond, List, [], ◌∷◌, ℕ, zero, suc, ◌+◌, ◌-◌, ◌<◌, ◌≤◌, eqb, length, get_or, take}
+use Rattle.std.proofs.Common.{sym, ap, ◌∙◌, le_refl, add-zero, le-leb, eq-eqb, ne_eqb}
 use Rattle.std.proofs.Math.Bool.{and-false}
 use native.Mathlib.Omega.{arith}
 use Rattle.std.proofs.lemmas.Bool.{lt-leb}
+use Rattle.std.proofs.lemmas.List.{get_or_default}
 use Rattle.std.proofs.Math.ListN.{get_or-eq_default}
 use Rattle.std.proofs.Math.Seq.{slice, length-slice, get_or-drop, get_or-take}
 use Rattle.lists.specs.Slice.{slice-next}
 use Rattle.model.specs.Elf.{up_to_zero}
 use Rattle.model.specs.ElfRefusals.{string_ok}
 use Rattle.elf_laws.specs.Names.{run, letter, letters-length, string-by-letters}
-
-pub no-letter-zero : (b : ℕ) → b ≡ 0 → letter b ≡ false
-no-letter-zero b e = rw e
-
-pub no-letter-high : (b : ℕ) → 127 < b → letter b ≡ false
-no-letter-high b h = rw (lt-leb b 127 h) (and-false (leb 1 b))
-
-pub is-letter : (b : ℕ) → (b ≡ 0 → ⊥) → b ≤ 127 → letter b ≡ true
-is-letter b z h = rw (le-leb 1 b (omega arith), le-leb b 127 h)
 
 -- the first place from p on that has no letter, at the latest e
 unfoldable pub stop : List ℕ → ℕ → ℕ → ℕ
@@ -70,11 +62,6 @@ module _ (d : List ℕ) (e : ℕ) (inside : e ≤ length d) where
 
 -- ---- 26 on a name by the place where it stops
 
-get_d_default : (l : List ℕ) (i x y : ℕ) → i < length l → get_or l i x ≡ get_or l i y
-get_d_default [] i x y h = absurd (not-suc-le-zero h)
-get_d_default (b ∷ l) zero x y h = refl
-get_d_default (b ∷ l) (suc i) x y h = get_d_default l i x y (le_of_suc-le-suc h)
-
 module _ (d : List ℕ) (e : ℕ) (inside : e ≤ length d) (p : ℕ) (before : p ≤ e) where
   -- what stands there
   next-is : stop d e p < e → get_or (slice p e d) (run letter (slice p e d)) 1 ≡ get_or d (stop d e p) 0
@@ -82,7 +69,7 @@ module _ (d : List ℕ) (e : ℕ) (inside : e ≤ length d) (p : ℕ) (before : 
   next-is h =
       get_or-drop p (take e d) (run letter (slice p e d)) 1
       ∙ get_or-take e d (p + run letter (slice p e d)) 1 h
-      ∙ get_d_default d (p + run letter (slice p e d)) 1 0 (omega arith)
+      ∙ get_or_default d (p + run letter (slice p e d)) 1 0 (omega arith)
 
   next-none : stop d e p ≡ e → get_or (slice p e d) (run letter (slice p e d)) 1 ≡ 1
   unfolding stop

@@ -1,13 +1,12 @@
 -- What the functions tell: of where a name stops, of a memo, of one name, and of all names.
-use Rattle.std.specs.Prelude.{◌≡◌, ◌⊎◌, Bool, true, false, List, ℕ, suc, ◌+◌, ◌-◌, ◌*◌, ◌<◌, ◌≤◌, length, get_or, drop}
+use Rattle.std.specs.Prelude.{◌≡◌, ◌⊎◌, Bool, true, false, List, ℕ, suc, ◌+◌, ◌-◌, ◌*◌, ◌<◌, ◌≤◌, length, get_or, drop, ◌&&◌, ⊤, Result, Ok, Err, MatchResult}
 use Rattle.std.proofs.Common.{arith, length-take, drop_of_length-le}
 use Rattle.std.proofs.Math.Seq.{slice}
 use Rattle.model.specs.LicenceVersion.{has_zero}
 use Rattle.model.specs.Elf.{up_to_zero}
 use Rattle.model.specs.ElfRefusals.{string_ok}
 use Rattle.elf_laws.specs.Places.{table-from}
-use Rattle.elf_names.specs.declared.Measured.{Measured}
-use Rattle.elf_names.specs.declared.Surveyed.{Surveyed}
+use Rattle.elf_names.specs.declared.NameFault.{NameFault}
 use Rattle.elf_names.specs.Lengths.{string_table}
 use Rattle.elf_names.specs.Stop.{stop, stop-from}
 
@@ -31,28 +30,34 @@ MemoHolds d strings end memo = (j q : ℕ) → get_or memo j 0 ≡ suc q → sto
 abbrev pub Filled : ℕ → ℕ → ℕ → List ℕ → List ℕ → Type 0
 Filled from to v m₀ m = (j : ℕ) → (get_or m j 0 ≡ get_or m₀ j 0) ⊎ ((from ≤ j) × (j < to) × (get_or m j 0 ≡ v))
 
--- of a name, with a memo of k numbers
-abbrev pub MeasureTold : ℕ → List ℕ → Measured → Type 0
-MeasureTold k s (Measured.Length n) = (string_ok s ≡ true) × (n ≡ length (up_to_zero s))
-MeasureTold k s Measured.Broken = string_ok s ≡ false
-MeasureTold k s Measured.Long = k ≡ 0
+-- why a name, or names, have no length, with a memo of k numbers
+abbrev pub FaultTold : ℕ → Bool → NameFault → Type 0
+FaultTold k ok NameFault.Broken = ok ≡ false
+FaultTold k ok NameFault.Long = k ≡ 0
+
+-- of a name
+abbrev pub MeasureTold : ℕ → List ℕ → Result ℕ NameFault → Type 0
+MeasureTold k s r = MatchResult r (λ n. (string_ok s ≡ true) × (n ≡ length (up_to_zero s))) (FaultTold k (string_ok s))
+
+-- of all names
+abbrev pub SurveyTold : ℕ → Bool → List ℕ → List ℕ → Result ⊤ NameFault → Type 0
+SurveyTold k ok wanted lens r = MatchResult r (λ _. (ok ≡ true) × (lens ≡ wanted)) (FaultTold k ok)
 
 -- a name at an offset past the table's end
-pub told-past : (k : ℕ) (d : List ℕ) (strings end o : ℕ) → end - strings ≤ o → MeasureTold k (drop o (string_table d strings end)) Measured.Broken
+pub told-past : (d : List ℕ) (strings end o : ℕ) → end - strings ≤ o → string_ok (drop o (string_table d strings end)) ≡ false
 unfolding string_ok has_zero
-told-past k d strings end o h =
+told-past d strings end o h =
     let l : length (string_table d strings end) ≤ o = rw length-take (omega arith) in
     rw (drop_of_length-le (string_table d strings end) l)
 
 -- what is told of a name where it lies
-pub told-there : (k : ℕ) (d : List ℕ) (strings end o : ℕ) (r : Measured) → MeasureTold 1 (slice (strings + o) end d) r
+pub told-there : (k : ℕ) (d : List ℕ) (strings end o : ℕ) (r : Result ℕ NameFault) → MeasureTold 1 (slice (strings + o) end d) r
     → MeasureTold k (drop o (string_table d strings end)) r
-told-there k d strings end o (Measured.Length n) t = rw (table-from d strings end o) t
-told-there k d strings end o Measured.Broken t = rw (table-from d strings end o) t
-told-there k d strings end o Measured.Long t = let no : ⊥ = omega arith in absurd no
+told-there k d strings end o (Ok n) t = rw (table-from d strings end o) t
+told-there k d strings end o (Err NameFault.Broken) t = rw (table-from d strings end o) t
+told-there k d strings end o (Err NameFault.Long) t = let no : ⊥ = omega arith in absurd no
 
--- of all names
-abbrev pub SurveyTold : ℕ → Bool → List ℕ → List ℕ → Surveyed → Type 0
-SurveyTold k ok wanted lens Surveyed.Fine = (ok ≡ true) × (lens ≡ wanted)
-SurveyTold k ok wanted lens Surveyed.Broken = ok ≡ false
-SurveyTold k ok wanted lens Surveyed.Long = k ≡ 0
+-- a fault of one name is one of all
+pub fault-of-all : (k : ℕ) (a b : Bool) (e : NameFault) → FaultTold k a e → FaultTold k (a && b) e
+fault-of-all k a b NameFault.Broken t = rw t
+fault-of-all k a b NameFault.Long t = t

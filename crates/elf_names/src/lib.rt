@@ -3,92 +3,141 @@
 
 ghost use Rattle.std.specs.Prelude.{◌≡◌, true, ◌+◌, ◌*◌, ◌≤◌, min, length, drop};
 ghost use Rattle.std.proofs.Math.Seq.{slice};
+ghost use Rattle.elf_laws.specs.Names.{letter};
 ghost use Rattle.elf_names.specs.Lengths.{string_table, strings_ok, string_lengths};
 ghost use Rattle.elf_names.specs.Stop.{stop};
 ghost use Rattle.elf_names.specs.Told.{Stopped, MemoHolds, Filled, MeasureTold, SurveyTold};
 
-use elf_records::{four_in, index_at};
+use elf_records::four_in;
 use model::Endianness;
-use stream::size;
 
 // The length of the longest name.
 const LONGEST: usize = 65535;
 
-fn least(x: usize, y: usize) -> usize
-    ensures { result ≡ min x y }
-{
-    if x < y { x } else { y }
-}
+// How far apart the places lie that a memo knows.
+const STRIDE: usize = 1024;
 
-// Finds where the letters from p on stop, which are the bytes from 1 to 127; it looks at no more than 1,024 bytes.
-fn stride(d: &[u8], p: usize, end: usize) -> usize
-    requires { (p ≤ end) × (end ≤ length d.now) }
-    ensures { result ≡ min (p + 1024) (stop d.now end p) }
-{
-    let e = least(p + 1024, end);
-    let mut k = p;
-    while k < e {
-        let b = d[k];
-        if b == 0 {
-            return k;
-        }
-        if b > 127 {
-            return k;
-        }
-        k += 1;
-    }
-    k
-}
-
-// What is told of one name: its length, that it breaks a rule, or that it is long and there is no memo.
+// Why a name has no length: it breaks a rule, or it is long and there is no memo.
 #[derive(Clone, Copy)]
-enum Measured {
-    Length(u32),
+enum NameFault {
     Broken,
     Long,
 }
 
-// Tells of the name from p on by the place where it stops.
-fn judge(d: &[u8], p: usize, q: usize, end: usize) -> Measured
-    requires { (p ≤ end) × (end ≤ length d.now) × Stopped d.now end p q }
-    ensures { MeasureTold 1 (slice p end d.now) result }
-{
-    if q - p > LONGEST {
-        return Measured::Broken;
-    }
-    if end <= q {
-        return Measured::Broken;
-    }
-    if d[q] != 0 {
-        return Measured::Broken;
-    }
-    Measured::Length((q - p) as u32)
+// The names of a file: its bytes from `start` up to `end`.
+#[derive(Clone, Copy)]
+pub struct StringTable<'a> {
+    pub bytes: &'a [u8],
+    pub start: usize,
+    pub end: usize,
+    ghost rises: { start ≤ end },
+    ghost inside: { end ≤ length bytes.now },
+    ghost small: { length bytes.now ≤ 16777216 },
 }
 
-// Finds where 1,024 letters or more stop, or a place past 65,535 of them: it goes from one 1,024th byte to the next, up to one that the memo knows.
-fn find_stop(d: &[u8], strings: usize, end: usize, p: usize, memo: &[u32]) -> usize
-    requires { (strings ≤ p)
-        × (p ≤ end)
-        × (end ≤ length d.now)
-        × (p + 1024 ≤ stop d.now end p)
-        × MemoHolds d.now strings end memo.now }
-    ensures { Stopped d.now end p result }
+// Letters are the bytes from 1 to 127.
+fn is_letter(b: u8) -> bool
+    ensures { result ≡ letter b }
 {
-    let mut j = (p - strings) / 1024 + 1;
-    loop {
-        let known = size(index_at(memo, j));
-        if known != 0 {
-            return known - 1;
+    matches!(b, 1..=127)
+}
+
+impl<'a> StringTable<'a> {
+    // Finds where the letters from a place on stop; it looks at no more than a stride.
+    #[tactic(auto, using(crate::proofs::Rules::stops))]
+    fn stride(self, place: usize) -> usize
+        requires { place ≤ self.end }
+        ensures { result ≡ min (place + 1024) (stop self.entry.bytes.now self.entry.end place) }
+    {
+        let end = self.end.min(place + STRIDE);
+        for k in place..end {
+            if !is_letter(self.bytes[k]) {
+                return k;
+            }
         }
-        let x = strings + 1024 * j;
-        let q = stride(d, x, end);
-        if q < x + 1024 {
-            return q;
+        end
+    }
+
+    // Tells the length of a name by the places where it begins and where its letters stop.
+    #[tactic(auto, using(crate::proofs::Rules::names))]
+    fn judge(self, name: usize, past: usize) -> Result<u32, NameFault>
+        requires { (name ≤ self.end) × Stopped self.bytes.now self.end name past }
+        ensures { MeasureTold 1 (slice name self.entry.end self.entry.bytes.now) result }
+    {
+        if past - name > LONGEST || past >= self.end || self.bytes[past] != 0 {
+            return Err(NameFault::Broken);
         }
-        if q - p > LONGEST {
-            return q;
+        Ok((past - name) as u32)
+    }
+
+    // Finds where a name of a stride or more stops, or a place where it is too long: it goes by strides, up to one that the memo knows.
+    #[tactic(auto, using(crate::proofs::Rules::stops))]
+    fn find_stop(self, name: usize, memo: &[u32]) -> usize
+        requires { (self.start ≤ name)
+            × (name ≤ self.end)
+            × (name + 1024 ≤ stop self.bytes.now self.end name)
+            × MemoHolds self.bytes.now self.start self.end memo.now }
+        ensures { Stopped self.entry.bytes.now self.entry.end name result }
+    {
+        let mut j = (name - self.start) / STRIDE + 1;
+        // Only what a stride finds ends this loop: a `for` would name an end that is never reached.
+        loop {
+            let known = memo.get(j).copied().unwrap_or(0) as usize;
+            if known != 0 {
+                return known - 1;
+            }
+            let place = self.start + STRIDE * j;
+            let past = self.stride(place);
+            if past < place + STRIDE || past - name > LONGEST {
+                return past;
+            }
+            j += 1;
         }
-        j += 1;
+    }
+
+    // Finds the stop, and fills in what was passed on the way.
+    fn learn_stop(self, name: usize, memo: &mut [u32]) -> usize
+        requires { (self.start ≤ name)
+            × (name ≤ self.end)
+            × (name + 1024 ≤ stop self.bytes.now self.end name)
+            × MemoHolds self.bytes.now self.start self.end memo.old }
+        ensures { Stopped self.entry.bytes.now self.entry.end name result
+            × MemoHolds self.entry.bytes.now self.entry.start self.entry.end memo.new }
+    {
+        let past = self.find_stop(name, memo);
+        if past - name > LONGEST {
+            return past;
+        }
+        fill(
+            memo,
+            (name - self.start) / STRIDE + 1,
+            (past - self.start) / STRIDE + 1,
+            (past + 1) as u32,
+        );
+        past
+    }
+
+    // Measures the name at an offset. A long one is followed where there is a memo.
+    #[tactic(auto, using(crate::proofs::Rules::stops))]
+    fn measure(self, offset: usize, memo: &mut [u32]) -> Result<u32, NameFault>
+        requires { MemoHolds self.bytes.now self.start self.end memo.old }
+        ensures { let s = self.entry in
+            MeasureTold (length memo.old) (drop offset (string_table s.bytes.now s.start s.end)) result
+            × MemoHolds s.bytes.now s.start s.end memo.new }
+    {
+        if self.end - self.start <= offset {
+            return Err(NameFault::Broken);
+        }
+        let name = self.start + offset;
+        let near = self.stride(name);
+        if near < name + STRIDE {
+            return self.judge(name, near);
+        }
+        if memo.is_empty() {
+            return Err(NameFault::Long);
+        }
+        let far = self.learn_stop(name, memo);
+        self.judge(name, far)
     }
 }
 
@@ -96,164 +145,72 @@ fn find_stop(d: &[u8], strings: usize, end: usize, p: usize, memo: &[u32]) -> us
 fn fill(memo: &mut [u32], from: usize, to: usize, v: u32)
     ensures { Filled from to v memo.old memo.new }
 {
-    let e = least(to, memo.len());
-    let mut j = from;
-    while j < e {
+    for j in from..to.min(memo.len()) {
         if memo[j] != 0 {
             return;
         }
         memo[j] = v;
-        j += 1;
     }
 }
 
-// Finds the stop, and fills in what was passed on the way.
-fn learn_stop(d: &[u8], strings: usize, end: usize, p: usize, memo: &mut [u32]) -> usize
-    requires { (strings ≤ p)
-        × (p ≤ end)
-        × (end ≤ length d.now)
-        × (length d.now ≤ 16777216)
-        × (p + 1024 ≤ stop d.now end p)
-        × MemoHolds d.now strings end memo.old }
-    ensures { Stopped d.now end p result × MemoHolds d.now strings end memo.new }
-{
-    let q = find_stop(d, strings, end, p, memo);
-    if q - p > LONGEST {
-        return q;
-    }
-    fill(
-        memo,
-        (p - strings) / 1024 + 1,
-        (q - strings) / 1024 + 1,
-        (q + 1) as u32,
-    );
-    q
-}
-
-// Measures the name at an offset. A long one is followed where there is a memo.
-fn measure(d: &[u8], strings: usize, end: usize, offset: usize, memo: &mut [u32]) -> Measured
-    requires { (strings ≤ end) × (end ≤ length d.now) × (length d.now ≤ 16777216) × MemoHolds d.now strings end memo.old }
-    ensures { MeasureTold (length memo.old) (drop offset (string_table d.now strings end)) result
-        × MemoHolds d.now strings end memo.new }
-{
-    if end - strings <= offset {
-        return Measured::Broken;
-    }
-    let p = strings + offset;
-    let q = stride(d, p, end);
-    if q < p + 1024 {
-        return judge(d, p, q, end);
-    }
-    if memo.len() == 0 {
-        return Measured::Long;
-    }
-    let far = learn_stop(d, strings, end, p, memo);
-    judge(d, p, far, end)
-}
-
-// What is told of all names: they are fine and their lengths are stored, one breaks a rule, or one is long and there is no memo.
+// Records of `width` bytes, from `at` on in the file of their names. Each has its name's offset in its first four bytes.
 #[derive(Clone, Copy)]
-enum Surveyed {
-    Fine,
-    Broken,
-    Long,
+pub struct NamedRecords<'a> {
+    pub order: Endianness,
+    pub at: usize,
+    pub width: usize,
+    pub names: StringTable<'a>,
+    ghost wide: { 4 ≤ width },
 }
 
-// Measures the names of all records, up to one that is not fine.
-fn survey(
-    d: &[u8],
-    order: Endianness,
-    at: usize,
-    width: usize,
-    strings: usize,
-    end: usize,
-    lens: &mut [u32],
-    memo: &mut [u32],
-) -> Surveyed
-    requires { (at + width * length lens.old ≤ length d.now)
-        × (4 ≤ width)
-        × (strings ≤ end)
-        × (end ≤ length d.now)
-        × (length d.now ≤ 16777216)
-        × MemoHolds d.now strings end memo.old }
-    ensures { SurveyTold (length memo.old)
-        (strings_ok order d.now at width strings end (length lens.old))
-        (string_lengths order d.now at width strings end (length lens.old))
-        lens.new result }
-{
-    let mut i: usize = 0;
-    while i < lens.len() {
-        let offset = size(four_in(d, order, at + width * i));
-        match measure(d, strings, end, offset, memo) {
-            Measured::Length(n) => {
-                lens[i] = n;
-                i += 1;
-            }
-            Measured::Broken => {
-                return Surveyed::Broken;
-            }
-            Measured::Long => {
-                return Surveyed::Long;
-            }
+impl<'a> NamedRecords<'a> {
+    // Stores the lengths of the names of all records, up to one that is not fine.
+    fn survey(self, lens: &mut [u32], memo: &mut [u32]) -> Result<(), NameFault>
+        requires { (self.at + self.width * length lens.old ≤ length self.names.bytes.now)
+            × MemoHolds self.names.bytes.now self.names.start self.names.end memo.old }
+        ensures { let r = self.entry in
+            let s = r.names in
+            SurveyTold (length memo.old)
+            (strings_ok r.order s.bytes.now r.at r.width s.start s.end (length lens.old))
+            (string_lengths r.order s.bytes.now r.at r.width s.start s.end (length lens.old))
+            lens.new result }
+    {
+        for (i, length) in lens.iter_mut().enumerate() {
+            let offset = four_in(self.names.bytes, self.order, self.at + self.width * i);
+            *length = self.names.measure(offset as usize, memo)?;
         }
+        Ok(())
     }
-    Surveyed::Fine
-}
 
-// Does so with a memo, which has a number for each 1,024th byte of the longest file.
-// It calls itself with the array, so that the compiler gives the array a frame of its own.
-fn long_lengths(
-    d: &[u8],
-    order: Endianness,
-    at: usize,
-    width: usize,
-    strings: usize,
-    end: usize,
-    lens: &mut [u32],
-    memo: &mut [u32],
-) -> bool
-    requires { (at + width * length lens.old ≤ length d.now)
-        × (4 ≤ width)
-        × (strings ≤ end)
-        × (end ≤ length d.now)
-        × (length d.now ≤ 16777216)
-        × MemoHolds d.now strings end memo.old }
-    ensures { (result ≡ strings_ok order d.now at width strings end (length lens.old))
-        × (result ≡ true → lens.new ≡ string_lengths order d.now at width strings end (length lens.old)) }
-{
-    if memo.len() == 0 {
-        let mut more = [0u32; 16384];
-        return long_lengths(d, order, at, width, strings, end, lens, &mut more);
-    }
-    match survey(d, order, at, width, strings, end, lens, memo) {
-        Surveyed::Fine => true,
-        Surveyed::Broken => false,
-        Surveyed::Long => false,
+    // Does so with a memo. It calls itself with the array, so that the compiler gives the array a frame of its own.
+    fn long_lengths(self, lens: &mut [u32], memo: &mut [u32]) -> bool
+        requires { (self.at + self.width * length lens.old ≤ length self.names.bytes.now)
+            × MemoHolds self.names.bytes.now self.names.start self.names.end memo.old }
+        ensures { let r = self.entry in
+            let s = r.names in
+            (result ≡ strings_ok r.order s.bytes.now r.at r.width s.start s.end (length lens.old))
+            × (result ≡ true → lens.new ≡ string_lengths r.order s.bytes.now r.at r.width s.start s.end (length lens.old)) }
+    {
+        if memo.is_empty() {
+            // The array has a number for each 1,024th byte of the longest file. 0 stands for unknown: options would take twice the memory to clear.
+            let mut more = [0u32; 16384];
+            return self.long_lengths(lens, &mut more);
+        }
+        self.survey(lens, memo).is_ok()
     }
 }
 
-// Record i, of `width` bytes, has its name's offset in its first four bytes; the string table lies from `strings` up to `end`.
-pub fn name_lengths(
-    d: &[u8],
-    order: Endianness,
-    at: usize,
-    width: usize,
-    strings: usize,
-    end: usize,
-    lens: &mut [u32],
-) -> bool
-    requires { (at + width * length lens.old ≤ length d.now)
-        × (4 ≤ width)
-        × (strings ≤ end)
-        × (end ≤ length d.now)
-        × (length d.now ≤ 16777216) }
-    ensures { (result ≡ strings_ok order d.now at width strings end (length lens.old))
-        × (result ≡ true → lens.new ≡ string_lengths order d.now at width strings end (length lens.old)) }
+// Stores the length of each record's name; false where a name breaks a rule.
+pub fn name_lengths(records: NamedRecords, lens: &mut [u32]) -> bool
+    requires { records.at + records.width * length lens.old ≤ length records.names.bytes.now }
+    ensures { let r = records.entry in
+        let s = r.names in
+        (result ≡ strings_ok r.order s.bytes.now r.at r.width s.start s.end (length lens.old))
+        × (result ≡ true → lens.new ≡ string_lengths r.order s.bytes.now r.at r.width s.start s.end (length lens.old)) }
 {
-    let mut memo = [0u32; 0];
-    match survey(d, order, at, width, strings, end, lens, &mut memo) {
-        Surveyed::Fine => true,
-        Surveyed::Broken => false,
-        Surveyed::Long => long_lengths(d, order, at, width, strings, end, lens, &mut memo),
+    match records.survey(lens, &mut []) {
+        Ok(()) => true,
+        Err(NameFault::Broken) => false,
+        Err(NameFault::Long) => records.long_lengths(lens, &mut []),
     }
 }

@@ -1,8 +1,7 @@
 -- The symbols that the symbol records of a file's view stand for, where its index holds what it should.
-use Rattle.std.specs.Prelude.{◌≡◌, Bool, true, false, cond, ◌&&◌, ◌||◌, List, ℕ, ◌+◌, ◌%◌, ◌<◌, leb, get_or}
+use Rattle.std.specs.Prelude.{◌≡◌, Bool, true, false, cond, ◌&&◌, ◌||◌, List, ℕ, ◌+◌, ◌%◌, ◌<◌, leb, get_or, None, Option, Some}
 use Rattle.std.proofs.Math.Path.{refl, ap}
 use Rattle.std.proofs.Common.{◌∙◌, arith, leb-false, ne_eqb}
-use Rattle.std.proofs.Math.Option.{Option, none, some}
 use Rattle.std.proofs.Math.Nat.{zero-add}
 use Rattle.std.proofs.Math.Dec.{eqb}
 use Rattle.std.proofs.Math.ListN.{length}
@@ -27,7 +26,7 @@ unfolding section_or_none
 section-or-none s = go (eqb s 0 || leb 65280 s) refl
   where
     go : (b : Bool) → (eqb s 0 || leb 65280 s) ≡ b
-        → ◌≡◌ {A = Option SectionIndex} (unless_none (cond b no_index s) (record { 0 = cond b no_index s })) (cond b none (some (record { 0 = s })))
+        → ◌≡◌ {A = Option SectionIndex} (unless_none (cond b no_index s) (record { 0 = cond b no_index s })) (cond b None (Some (record { 0 = s })))
     go true e = refl
     go false e =
         let l : s < 65280 = leb-false _ _ (both_false (eqb s 0) (leb 65280 s) e).1 in
@@ -53,12 +52,12 @@ definition-is info s = go (eqb (info % 16) 2) (eqb (info % 16) 1) (eqb s 0 || le
         let l : s < 65280 = leb-false _ _ (both_false (eqb s 0) (leb 65280 s) e).1 in
         ne_eqb s 4294967295 (λ z. let no : ⊥ = omega arith in no)
 
-    present : (c : Bool) → eqb (cond c 0 1) 1 ≡ is_some (cond {A = Option SectionIndex} c none (some (record { 0 = s })))
+    present : (c : Bool) → eqb (cond c 0 1) 1 ≡ is_some (cond {A = Option SectionIndex} c None (Some (record { 0 = s })))
     present true = refl
     present false = refl
 
     go : (a b c : Bool) → (eqb s 0 || leb 65280 s) ≡ c
-        → eqb (cond (eqb (cond a 1 (cond b 2 0)) 0 || is_none (cond c no_index s)) 0 1) 1 ≡ ((a || b) && is_some (cond {A = Option SectionIndex} c none (some (record { 0 = s }))))
+        → eqb (cond (eqb (cond a 1 (cond b 2 0)) 0 || is_none (cond c no_index s)) 0 1) 1 ≡ ((a || b) && is_some (cond {A = Option SectionIndex} c None (Some (record { 0 = s }))))
     go true b c e = rw (absent c e) (present c)
     go false true c e = rw (absent c e) (present c)
     go false false c e = refl

@@ -1,10 +1,9 @@
 -- Tests that hold of a whole list, at one of its elements.
-use Rattle.std.specs.Prelude.{◌≡◌, Bool, ◌||◌, not, ℕ, ◌<◌}
+use Rattle.std.specs.Prelude.{◌≡◌, Bool, ◌||◌, not, ℕ, ◌<◌, None, Some}
 use Rattle.std.proofs.Math.Path.{refl}
 use Rattle.std.proofs.Common.{sym, ◌∙◌}
 use Rattle.std.proofs.Math.Bool.{true, false, cond}
 use mathlib.Core.List.{List, [], ◌∷◌}
-use Rattle.std.proofs.Math.Option.{none, some}
 use Rattle.lists.specs.Tab.{tab}
 use Rattle.lists.specs.Tests.{not_some, both_true}
 use Rattle.model.specs.Bytes.{push, keep, or_else, first_in, find}
@@ -19,13 +18,13 @@ module _ {A : Type 0} (ok : A → Bool) where
   passed-weaker p w (x ∷ l) a = let (h, t) = both_true (ok x) (all ok l) a in rw (w x h) (passed-weaker p w l t)
 
   -- the one that another test found, which passed that test too
-  pub passed-found : (p : A → Bool) (l : List A) (x : A) → find p l ≡ some x → all ok l ≡ true → (p x ≡ true) × (ok x ≡ true)
+  pub passed-found : (p : A → Bool) (l : List A) (x : A) → find p l ≡ Some x → all ok l ≡ true → (p x ≡ true) × (ok x ≡ true)
   unfolding find first_in all
   passed-found p [] x e a = not_some x (sym e)
   passed-found p (y ∷ l) x e a = go (p y) refl e (λ q. passed-found p l x q (both_true (ok y) (all ok l) a).1)
     where
-      go : (b : Bool) → p y ≡ b → or_else (cond b (some y) none) (first_in (λ z. cond (p z) (some z) none) l) ≡ some x
-          → (first_in (λ z. cond (p z) (some z) none) l ≡ some x → (p x ≡ true) × (ok x ≡ true)) → (p x ≡ true) × (ok x ≡ true)
+      go : (b : Bool) → p y ≡ b → or_else (cond b (Some y) None) (first_in (λ z. cond (p z) (Some z) None) l) ≡ Some x
+          → (first_in (λ z. cond (p z) (Some z) None) l ≡ Some x → (p x ≡ true) × (ok x ≡ true)) → (p x ≡ true) × (ok x ≡ true)
       go true t q r = let i : y ≡ x = cc in rw (← i) (t, (both_true (ok y) (all ok l) a).0)
       go false t q r = r q
 

@@ -1,9 +1,8 @@
 -- Where a file's headers, symbols and strings lie, and how many there are, if it passes 26 but for its names.
-use Rattle.std.specs.Prelude.{◌≡◌, Bool, ◌&&◌, ◌||◌, List, [], ℕ, ◌+◌, ◌-◌, ◌*◌, ◌/◌, ◌<◌, ◌≤◌, min, leb, drop}
+use Rattle.std.specs.Prelude.{◌≡◌, Bool, ◌&&◌, ◌||◌, List, [], ℕ, ◌+◌, ◌-◌, ◌*◌, ◌/◌, ◌<◌, ◌≤◌, min, leb, drop, None, Option, Some}
 use Rattle.std.proofs.Math.Path.{refl}
 use Rattle.std.proofs.Common.{sym, ap, ◌∙◌}
 use Rattle.std.proofs.Math.Bool.{true, false, cond}
-use Rattle.std.proofs.Math.Option.{Option, none, some}
 use native.Mathlib.Omega.{arith}
 use borrow.Author.Tests.{leb-true, eqb-true, eqb-false, ne_eqb}
 use Rattle.std.proofs.Math.Dec.{eqb}
@@ -63,8 +62,8 @@ tables-ruled f p e =
 symbols-linked : (f : List ℕ) (p : File) (y : Option Header) → maybe y true (symbol_table_ok f p) ≡ true
     → maybe y true (λ t. links_strings p.sections t.link && whole_entries t) ≡ true
 unfolding symbol_table_ok
-symbols-linked f p none e = refl
-symbols-linked f p (some t) e =
+symbols-linked f p None e = refl
+symbols-linked f p (Some t) e =
     let (a, b) = both_true (links_strings p.sections t.link) _ e in
     let c : whole_entries t ≡ true = (both_true (whole_entries t) _ b).0 in
     rw (a, c)
@@ -156,8 +155,8 @@ strings-linked f p n a e = go (section_numbered p.sections n) refl e
   where
     go : (x : Option Header) → section_numbered p.sections n ≡ x → maybe x false (is_type 3) ≡ true
         → StringsIn f (maybe x [] (file_data f)) (maybe x 0 strings_start) (maybe x 0 (λ h. strings_start h + h.size))
-    go none i e = true-not-false (sym e)
-    go (some h) i e = strings-of f h (passed-found (header_ok (length f)) (λ h. eqb h.index n) p.sections h i a).1 (eqb-true _ _ e)
+    go None i e = true-not-false (sym e)
+    go (Some h) i e = strings-of f h (passed-found (header_ok (length f)) (λ h. eqb h.index n) p.sections h i a).1 (eqb-true _ _ e)
 
 -- the strings of the sections' names, and those of the symbols'
 abbrev pub section_strings : List ℕ → List ℕ
@@ -193,8 +192,8 @@ module _ (f : List ℕ) (r : TablesRuled f (file_of f)) where
 
       go : (y : Option Header) → maybe y true (λ t. links_strings p.sections t.link && whole_entries t) ≡ true
           → StringsIn f (maybe y [] (λ t. strings_of f p t.link)) (maybe y 0 (λ t. strings_at p t.link)) (maybe y 0 (λ t. strings_end p t.link))
-      go none e = no-strings f
-      go (some t) e = strings-linked f p t.link r.sections (both_true _ _ e).0
+      go None e = no-strings f
+      go (Some t) e = strings-linked f p t.link r.sections (both_true _ _ e).0
 
   -- ---- how many, and where
 
@@ -207,8 +206,8 @@ module _ (f : List ℕ) (r : TablesRuled f (file_of f)) where
   symbols-few = go (file_of f).symbols r.few-symbols
     where
       go : (y : Option Header) → maybe y 0 (λ t. entry_count t) ≤ 65537 → maybe y 0 table_symbols ≤ 65536
-      go none l = omega arith
-      go (some t) l = omega arith
+      go None l = omega arith
+      go (Some t) l = omega arith
 
   pub relocations-few : (elf_view f).relocations ≤ 65536
   unfolding elf_view
@@ -237,7 +236,7 @@ module _ (f : List ℕ) (r : TablesRuled f (file_of f)) where
   header-passes i l = all-tab-at (header_in f (headers_in f)) (header_ok (length f)) (headers_in f).sections i l (rw sections-by-number at r.sections)
 
   -- the symbol table, where there is one
-  pub symbol-table : (t : Header) → (file_of f).symbols ≡ some t → (t.kind ≡ 2) × (header_ok (length f) t ≡ true)
+  pub symbol-table : (t : Header) → (file_of f).symbols ≡ Some t → (t.kind ≡ 2) × (header_ok (length f) t ≡ true)
   unfolding file_of
   symbol-table t e =
       let (k, ok) = passed-found (header_ok (length f)) (is_type 2) (file_of f).sections t e r.sections in
@@ -258,5 +257,5 @@ module _ (f : List ℕ) (r : TablesRuled f (file_of f)) where
           omega arith
 
       go : (y : Option Header) → (file_of f).symbols ≡ y → maybe y 0 symbols_start + 24 * maybe y 0 table_symbols ≤ length f
-      go none e = omega arith
-      go (some t) e = let (k, ok) = symbol-table t e in some-inside t (eqb (table_symbols t) 0) refl k ok
+      go None e = omega arith
+      go (Some t) e = let (k, ok) = symbol-table t e in some-inside t (eqb (table_symbols t) 0) refl k ok

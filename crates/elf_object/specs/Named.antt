@@ -1,7 +1,6 @@
 -- The names of 26 by number, each where it lies: 26 is 26 but for the names, and the names of the sections and of the symbols.
-use Rattle.std.specs.Prelude.{◌≡◌, refl, Bool, true, false, cond, ◌&&◌, List, [], ◌∷◌, map, ℕ, ◌+◌, ◌-◌, ◌*◌, ◌<◌, eqb, drop}
+use Rattle.std.specs.Prelude.{◌≡◌, refl, Bool, true, false, cond, ◌&&◌, List, [], ◌∷◌, map, ℕ, ◌+◌, ◌-◌, ◌*◌, ◌<◌, eqb, drop, None, Option, Some}
 use Rattle.std.proofs.Common.{sym, ap, ◌∙◌, arith, ne_eqb}
-use Rattle.std.proofs.Math.Option.{Option, none, some}
 use Rattle.lists.specs.Tab.{tab, tab-ext}
 use Rattle.lists.specs.Tests.{both_true}
 use Rattle.lists.specs.Walk.{map-tab}
@@ -60,8 +59,8 @@ symbol-names f r = go (file_of f).symbols r.symbols
     go : (y : Option Header) → maybe y true (λ t. links_strings p.sections t.link && whole_entries t) ≡ true
         → maybe y true (symbol_table_ok f p)
         ≡ all (name_passes (maybe y [] (λ t. strings_of f p t.link))) (tab (λ j. field p.order f (maybe y 0 symbols_start + 24 * j) 4) (maybe y 0 table_symbols))
-    go none e = sym (no_names _ _)
-    go (some t) e =
+    go None e = sym (no_names _ _)
+    go (Some t) e =
         let (a, b) = both_true (links_strings p.sections t.link) (whole_entries t) e in
         let name : List ℕ → ℕ = λ s. field p.order s 0 4 in
         let at : (j : ℕ) → j < table_symbols t → name (part f (t.offset + 24 + 24 * j) 24) ≡ field p.order f (symbols_start t + 24 * j) 4 = λ j l.

@@ -1,8 +1,7 @@
 -- The places of relocations: those of one section among those of all, as many as the tables in use have entries, and each inside the file.
-use Rattle.std.specs.Prelude.{◌≡◌, refl, Bool, true, false, cond, ◌||◌, not, ◌⊎◌, ℕ, zero, suc, ◌+◌, ◌-◌, ◌*◌, ◌/◌, ◌<◌, ◌≤◌, eqb, leb, ltb, length, get_or}
+use Rattle.std.specs.Prelude.{◌≡◌, refl, Bool, true, false, cond, ◌||◌, not, ◌⊎◌, ℕ, zero, suc, ◌+◌, ◌-◌, ◌*◌, ◌/◌, ◌<◌, ◌≤◌, eqb, leb, ltb, length, get_or, None, Option, Some}
 use Rattle.std.proofs.Common.{sym, ap, ◌∙◌, inl, inr, ⊎_elim, not-suc-le-zero, le_of_suc-le-suc, eq-or-lt_of_le, arith, leb-true, le-leb, eqb-true, ltb-true, ltb-false, length-append, get_or-append-add}
 use mathlib.Core.List.{List, [], ◌∷◌, ◌++◌}
-use Rattle.std.proofs.Math.Option.{Option, none, some}
 use Rattle.std.proofs.lemmas.Bool.{eqb-false}
 use Rattle.std.proofs.Math.ListN.{get_or-append}
 use Rattle.lists.specs.Tab.{tab, length-tab, get_or-tab, rows, rows-suc, rows-le}
@@ -59,8 +58,8 @@ module _ (f : List ℕ) (h : Headers) (n : ℕ) (ok : all (reloc_table_ok (tab (
       named t e = go (section_numbered hs t.info) refl (both_true (maybe (section_numbered hs t.info) false (λ x. not (is_relocations x))) _ e).0
         where
           go : (x : Option Header) → section_numbered hs t.info ≡ x → maybe x false (λ x. not (is_relocations x)) ≡ true → t.info ≤ h.sections
-          go none q r = true-not-false (sym r)
-          go (some x) q r =
+          go None q r = true-not-false (sym r)
+          go (Some x) q r =
               let (a, b) = passed-found (λ x. leb x.index h.sections) (λ x. eqb x.index t.info) hs x q numbers in
               let i : x.index ≡ t.info = eqb-true _ _ a in
               let m : x.index ≤ h.sections = leb-true _ _ b in

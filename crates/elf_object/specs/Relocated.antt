@@ -1,10 +1,9 @@
 -- The relocations of a section by their places, and a relocation by its record.
 use Rattle.std.proofs.Math.Path.{◌≡◌, refl, sym, ap, ap₂}
 use Rattle.std.proofs.Common.{◌∙◌}
-use Rattle.std.specs.Prelude.{Bool, false, get_or}
+use Rattle.std.specs.Prelude.{Bool, false, get_or, None, Option}
 use Rattle.std.proofs.Math.Bool.{true, cond}
 use mathlib.Core.List.{List, [], ◌∷◌, ◌++◌, map, map-append}
-use Rattle.std.proofs.Math.Option.{Option, none}
 use Prim.Native.Nat.{ℕ, ◌+◌, ◌*◌, ◌/◌, ◌%◌, ◌≤◌}
 use native.Mathlib.Omega.{arith}
 use Rattle.std.proofs.Math.Dec.{eqb}
@@ -85,7 +84,7 @@ pub view-relocations : (f : List ℕ) → TablesRuled f (file_of f) → (elf_vie
 unfolding elf_view
 view-relocations f r = relocations-placed f r
 
-target_is : (y : ℕ) (b : Bool) → ◌≡◌ {A = Option SymbolIndex} (unless_none (cond b 4294967295 y) (record { 0 = cond b 4294967295 y })) (cond b none (unless_none y (record { 0 = y })))
+target_is : (y : ℕ) (b : Bool) → ◌≡◌ {A = Option SymbolIndex} (unless_none (cond b 4294967295 y) (record { 0 = cond b 4294967295 y })) (cond b None (unless_none y (record { 0 = y })))
 target_is y true = refl
 target_is y false = refl
 

@@ -1,8 +1,7 @@
 -- The symbol records of a file's view: what they hold.
-use Rattle.std.specs.Prelude.{◌≡◌, true, List, [], ℕ, ◌+◌, ◌*◌, ◌<◌, ◌≤◌, get_or}
+use Rattle.std.specs.Prelude.{◌≡◌, true, List, [], ℕ, ◌+◌, ◌*◌, ◌<◌, ◌≤◌, get_or, None, Option, Some}
 use Rattle.std.proofs.Math.Path.{ap}
 use Rattle.std.proofs.Common.{sym, ◌∙◌, arith}
-use Rattle.std.proofs.Math.Option.{Option, none, some}
 use Rattle.std.proofs.Math.ListN.{length}
 use Rattle.lists.specs.Tab.{tab, tab-none, tab-ext}
 use Rattle.model.specs.declared.Endianness.{Endianness}
@@ -37,8 +36,8 @@ symbols-by-number f = go (file_of f).symbols
 
     go : (y : Option Header) → maybe y [] (file_symbols f p)
         ≡ tab (λ j. file_symbol p.order (maybe y [] (λ t. strings_of f p t.link)) (1 + j) (part f (maybe y 0 symbols_start + 24 * j) 24)) (maybe y 0 table_symbols)
-    go none = sym (tab-none _)
-    go (some t) =
+    go None = sym (tab-none _)
+    go (Some t) =
         symbols-tab f p t
         ∙ tab-ext _ _ (table_symbols t)
         (λ j l. ap (λ (q : ℕ). file_symbol p.order (strings_of f p t.link) (1 + j) (part f (q + 24 * j) 24)) (sym (symbols-start t j l)))

@@ -1,9 +1,8 @@
 -- Numbers 25 and 26 in the parts and in the order in which they are checked.
-use Rattle.std.specs.Prelude.{◌≡◌, Bool, ◌&&◌, ◌||◌, not, List, [], ◌∷◌, ◌++◌, ℕ, ◌+◌, ◌*◌, ◌/◌, ◌<◌, ◌≤◌, eqb, leb, length, take}
+use Rattle.std.specs.Prelude.{◌≡◌, Bool, ◌&&◌, ◌||◌, not, List, [], ◌∷◌, ◌++◌, ℕ, ◌+◌, ◌*◌, ◌/◌, ◌<◌, ◌≤◌, eqb, leb, length, take, None, Option, Some}
 use Rattle.std.proofs.Math.Path.{refl}
 use Rattle.std.proofs.Common.{sym, ap, ◌∙◌, arith, le-leb, leb-true}
 use Rattle.std.proofs.Math.Bool.{true, false, cond}
-use Rattle.std.proofs.Math.Option.{Option, none, some}
 use Rattle.lists.specs.Tab.{tab, tab-more}
 use Rattle.lists.specs.Tests.{both_true}
 use Rattle.model.specs.Bytes.{push, keep, maybe, starts_with, part, inside}
@@ -16,7 +15,6 @@ use Rattle.elf_header.specs.declared.Headers.{Headers}
 use Rattle.elf_header.specs.Headers.{header_in}
 use Rattle.elf_header.specs.Used.{used_by, used_in}
 use Rattle.elf_layout.specs.Layout.{tables_ok}
-use Rattle.elf_tables.specs.declared.Counted.{Counted}
 use Rattle.elf_laws.specs.All.{all-of-kept, all-tab}
 use Rattle.elf_tables.specs.Walks.{all-not}
 use Rattle.elf_tables.specs.Numbered.{sections_by, section_by, file_by}
@@ -51,44 +49,49 @@ kind-by f p h table =
 unfoldable pub room_ok : ℕ → FileHeader → Bool
 room_ok length p = leb length most_bytes && (leb p.count 4097 && (eqb p.count 0 || inside p.at (64 * p.count) length))
 
--- the type of the section of a number, REL where there is none
-unfoldable pub linked_type : List Header → ℕ → ℕ
-linked_type hs n = maybe (section_numbered hs n) 9 (λ t. t.kind)
+-- the type of the section of a number
+unfoldable pub linked_type : List Header → ℕ → Option ℕ
+linked_type hs n = maybe (section_numbered hs n) None (λ t. Some t.kind)
 
-pub links-strings : (hs : List Header) (n : ℕ) → links_strings hs n ≡ eqb (linked_type hs n) 3
+-- a link names a section whose type passes the test
+abbrev pub names_type : (ℕ → Bool) → Option ℕ → Bool
+names_type p None = false
+names_type p (Some k) = p k
+
+pub links-strings : (hs : List Header) (n : ℕ) → links_strings hs n ≡ names_type (λ k. eqb k 3) (linked_type hs n)
 unfolding links_strings linked_type
 links-strings hs n = go (section_numbered hs n)
   where
-    go : (y : Option Header) → maybe y false (λ t. eqb t.kind 3) ≡ eqb (maybe y 9 (λ t. t.kind)) 3
-    go none = refl
-    go (some t) = refl
+    go : (y : Option Header) → maybe y false (λ t. eqb t.kind 3) ≡ names_type (λ k. eqb k 3) (maybe y None (λ t. Some t.kind))
+    go None = refl
+    go (Some t) = refl
 
 pub links-data : (hs : List Header) (n : ℕ)
-    → maybe (section_numbered hs n) false (λ t. not (is_relocations t)) ≡ not (eqb (linked_type hs n) 9 || eqb (linked_type hs n) 4)
+    → maybe (section_numbered hs n) false (λ t. not (is_relocations t)) ≡ names_type (λ k. not (eqb k 9 || eqb k 4)) (linked_type hs n)
 unfolding linked_type
 links-data hs n = go (section_numbered hs n)
   where
     go : (y : Option Header)
-        → maybe y false (λ t. not (is_relocations t)) ≡ not (eqb (maybe y 9 (λ t. t.kind)) 9 || eqb (maybe y 9 (λ t. t.kind)) 4)
-    go none = refl
-    go (some t) = refl
+        → maybe y false (λ t. not (is_relocations t)) ≡ names_type (λ k. not (eqb k 9 || eqb k 4)) (maybe y None (λ t. Some t.kind))
+    go None = refl
+    go (Some t) = refl
 
 -- the limit of a symbol table, its link and its entries
 unfoldable pub symbol_table_fits : List Header → Option Header → Bool
 symbol_table_fits hs y = leb (maybe y 0 (λ t. entry_count t)) 65537 && maybe y true (λ t. links_strings hs t.link && whole_entries t)
 
-abbrev pub entries_fit : ℕ → Counted
-entries_fit n = cond (leb n 65536) (Counted.Entries n) Counted.Broken
+abbrev pub entries_fit : ℕ → Option ℕ
+entries_fit n = cond (leb n 65536) (Some n) None
 
 -- what a pass over the sections says
-unfoldable pub counted_by : List ℕ → Headers → ℕ → Counted
+unfoldable pub counted_by : List ℕ → Headers → ℕ → Option ℕ
 counted_by f h table =
     cond (all (header_ok (length f)) (sections_by f h) && all (reloc_table_ok (sections_by f h)) (used_in f h table))
     (entries_fit (entries_of (used_in f h table)))
-    Counted.Broken
+    None
 
-unfoldable pub tables_by : List ℕ → File → Counted
-tables_by f p = cond (tables_ok f p) (Counted.Entries (entries_of p.relocations)) Counted.Broken
+unfoldable pub tables_by : List ℕ → File → Option ℕ
+tables_by f p = cond (tables_ok f p) (Some (entries_of p.relocations)) None
 
 -- ---- two tests that hold at the same time
 
@@ -131,18 +134,18 @@ pub tables-by : (f : List ℕ) (p : FileHeader) (h : Headers) (table : ℕ) → 
     → tables_by f (file_by f p h table)
     ≡ cond (room_ok (length f) p)
     (cond (eqb p.count 0 || links_strings (sections_by f h) p.names)
-    (cond (symbol_table_fits (sections_by f h) (section_by f h table)) (counted_by f h table) Counted.Broken)
-    Counted.Broken)
-    Counted.Broken
+    (cond (symbol_table_fits (sections_by f h) (section_by f h table)) (counted_by f h table) None)
+    None)
+    None
 unfolding tables_by tables_ok limits_ok file_by room_ok symbol_table_fits counted_by
 tables-by f p h table l =
     rw (le-leb 64 (length f) l, regroup len cnt few rel tbl hdr nam lnk rls)
-    (cond_both (len && (cnt && tbl)) (nam && ((few && lnk) && ((hdr && rls) && rel))) entries Counted.Broken
-    ∙ ap (λ (x : Counted). cond (len && (cnt && tbl)) x Counted.Broken)
-    (cond_both nam ((few && lnk) && ((hdr && rls) && rel)) entries Counted.Broken
-    ∙ ap (λ (x : Counted). cond nam x Counted.Broken)
-    (cond_both (few && lnk) ((hdr && rls) && rel) entries Counted.Broken
-    ∙ ap (λ (x : Counted). cond (few && lnk) x Counted.Broken) (cond_both (hdr && rls) rel entries Counted.Broken))))
+    (cond_both (len && (cnt && tbl)) (nam && ((few && lnk) && ((hdr && rls) && rel))) entries None
+    ∙ ap (λ (x : Option ℕ). cond (len && (cnt && tbl)) x None)
+    (cond_both nam ((few && lnk) && ((hdr && rls) && rel)) entries None
+    ∙ ap (λ (x : Option ℕ). cond nam x None)
+    (cond_both (few && lnk) ((hdr && rls) && rel) entries None
+    ∙ ap (λ (x : Option ℕ). cond (few && lnk) x None) (cond_both (hdr && rls) rel entries None))))
   where
     hs : List Header
     hs = sections_by f h
@@ -177,8 +180,8 @@ tables-by f p h table l =
     rls : Bool
     rls = all (reloc_table_ok hs) (used_in f h table)
 
-    entries : Counted
-    entries = Counted.Entries (entries_of (used_in f h table))
+    entries : Option ℕ
+    entries = Some (entries_of (used_in f h table))
 
 -- ---- the pass
 
@@ -210,11 +213,11 @@ module _ (f : List ℕ) (h : Headers) (table : ℕ) where
       ap (λ (l : List Header). entries_of (keep (used_by table) l)) (tab-more (header_in f h) i)
       ∙ entries-last (used_by table) (header_in f h i) (tab (header_in f h) i)
 
-  pub count-header : (i : ℕ) → i < h.sections → header_ok (length f) (header_in f h i) ≡ false → counted_by f h table ≡ Counted.Broken
+  pub count-header : (i : ℕ) → i < h.sections → header_ok (length f) (header_in f h i) ≡ false → counted_by f h table ≡ None
   unfolding counted_by
   count-header i l e = rw (all-not (header_in f h) (header_ok (length f)) h.sections i l e)
 
-  pub count-table : (i : ℕ) → i < h.sections → used_ok table (reloc_table_ok (sections_by f h)) (header_in f h i) ≡ false → counted_by f h table ≡ Counted.Broken
+  pub count-table : (i : ℕ) → i < h.sections → used_ok table (reloc_table_ok (sections_by f h)) (header_in f h i) ≡ false → counted_by f h table ≡ None
   unfolding counted_by
   count-table i l e =
       rw (
@@ -223,7 +226,7 @@ module _ (f : List ℕ) (h : Headers) (table : ℕ) where
       )
       (broken (all (header_ok (length f)) (sections_by f h)))
     where
-      broken : (b : Bool) → cond (b && false) (entries_fit (entries_of (used_in f h table))) Counted.Broken ≡ Counted.Broken
+      broken : (b : Bool) → cond (b && false) (entries_fit (entries_of (used_in f h table))) None ≡ None
       broken true = refl
       broken false = refl
 

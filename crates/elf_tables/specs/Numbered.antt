@@ -1,12 +1,11 @@
 -- The sections of a file by number: the one of a number, the first symbol table, and the file that they make.
-use Rattle.std.specs.Prelude.{◌≡◌, Bool, ◌&&◌, not, List, ℕ, ◌+◌, ◌-◌, ◌*◌, ◌<◌, ◌≤◌, length}
+use Rattle.std.specs.Prelude.{◌≡◌, Bool, ◌&&◌, not, List, ℕ, ◌+◌, ◌-◌, ◌*◌, ◌<◌, ◌≤◌, length, None, Option, Some, MatchOption}
 use Rattle.std.proofs.Math.Path.{refl}
 use Rattle.std.proofs.Common.{sym, ◌∙◌}
 use Rattle.std.proofs.Math.Bool.{true, false}
-use Rattle.std.proofs.Math.Option.{Option, none, some}
-use Rattle.std.proofs.Math.Logic.{⊎_elim}
+use Rattle.std.proofs.Math.Logic.{◌⊎◌, ⊎_elim, inl, inr}
 use native.Mathlib.Omega.{arith}
-use borrow.Author.Tests.{eq-eqb, ne_eqb, eqb-true, eqb-false, leb-true, leb-false, not-true, not-false}
+use borrow.Author.Tests.{eq-eqb, ne_eqb, eqb-true, eqb-false, leb-true, leb-false, not-true}
 use Rattle.std.proofs.Math.Dec.{eqb, leb}
 use Rattle.lists.specs.Tab.{tab}
 use Rattle.lists.specs.Tests.{both_true}
@@ -36,52 +35,56 @@ unfoldable pub has_section : Headers → ℕ → Bool
 has_section h n = not (eqb n 0) && leb n h.sections
 
 module _ (f : List ℕ) (h : Headers) (n : ℕ) where
-  pub numbered-none : has_section h n ≡ false → section_by f h n ≡ none
-  unfolding has_section header_of
-  numbered-none e = find_none (header_in f h) (λ t. eqb t.index n) h.sections (λ i l. ne_eqb (1 + i) n (λ q. past i l q (eqb n 0) refl e))
+  -- no section has number 0 or one past the last
+  pub numbered-outside : (n ≡ 0) ⊎ (h.sections < n) → section_by f h n ≡ None
+  unfolding header_of
+  numbered-outside o =
+      find_none (header_in f h) (λ t. eqb t.index n) h.sections
+      (λ i l. ne_eqb (1 + i) n (λ q. ⊎_elim (λ (z : n ≡ 0). let no : ⊥ = omega arith in no) (λ (z : h.sections < n). let no : ⊥ = omega arith in no) o))
+
+  pub numbered-within : 1 ≤ n → n ≤ h.sections → section_by f h n ≡ Some (header_in f h (n - 1))
+  unfolding header_of
+  numbered-within from to =
+      find_first (header_in f h) (λ t. eqb t.index n) h.sections (n - 1) (omega arith) (λ i l. ne_eqb (1 + i) n (λ q. omega arith))
+      (eq-eqb (1 + (n - 1)) n (omega arith))
+
+  -- where the header of section n stands, counted from 0
+  abbrev pub IndexBy : Option ℕ → Type 0
+  IndexBy i = MatchOption i (section_by f h n ≡ None) (λ k. (k < h.sections) × (section_by f h n ≡ Some (header_in f h k)))
+
+  pub numbered-none : has_section h n ≡ false → section_by f h n ≡ None
+  unfolding has_section
+  numbered-none e = numbered-outside (go (eqb n 0) refl e)
     where
-      past : (i : ℕ) → i < h.sections → 1 + i ≡ n → (b : Bool) → eqb n 0 ≡ b → (not b && leb n h.sections) ≡ false → ⊥
-      past i l q true z e = let zero : n ≡ 0 = eqb-true n 0 z in omega arith
-      past i l q false z e = let more : h.sections < n = leb-false n h.sections e in omega arith
+      go : (b : Bool) → eqb n 0 ≡ b → (not b && leb n h.sections) ≡ false → (n ≡ 0) ⊎ (h.sections < n)
+      go true z e = inl (eqb-true n 0 z)
+      go false z e = inr (leb-false n h.sections e)
 
   -- what is known where there is a section of the number
   pub record HasNumber : Type 0 where
     pub from : 1 ≤ n
     pub to : n ≤ h.sections
-    pub is : section_by f h n ≡ some (header_in f h (n - 1))
+    pub is : section_by f h n ≡ Some (header_in f h (n - 1))
 
   pub number_is : has_section h n ≡ true → HasNumber
-  unfolding has_section header_of
+  unfolding has_section
   number_is e =
       let (a, b) = both_true (not (eqb n 0)) (leb n h.sections) e in
       let nonzero : n ≡ 0 → ⊥ = eqb-false n 0 (not-true (eqb n 0) a) in
+      let from : 1 ≤ n = omega arith in
       let to : n ≤ h.sections = leb-true n h.sections b in
-      record {
-        from = omega arith;
-        to = to;
-        is =
-            find_first (header_in f h) (λ t. eqb t.index n) h.sections (n - 1) (omega arith) (λ i l. ne_eqb (1 + i) n (λ q. omega arith))
-            (eq-eqb (1 + (n - 1)) n (omega arith));
-      }
-
-  -- the same by the test of a number
-  pub none-by : (r : Bool) → r ≡ has_section h n → not r ≡ true → section_by f h n ≡ none
-  none-by r e t = numbered-none (sym e ∙ not-true r t)
-
-  pub named_by : (r : Bool) → r ≡ has_section h n → not r ≡ false → HasNumber
-  named_by r e t = number_is (sym e ∙ not-false r t)
+      record { from = from; to = to; is = numbered-within from to }
 
 module _ (f : List ℕ) (h : Headers) where
-  pub numbered-zero : section_by f h 0 ≡ none
-  unfolding has_section
-  numbered-zero = numbered-none f h 0 refl
+  pub numbered-zero : section_by f h 0 ≡ None
+  numbered-zero = numbered-outside f h 0 (inl refl)
 
   -- the first symbol table is the section of its number
   pub first-table : find (is_type 2) (sections_by f h) ≡ section_by f h (table_by f h)
   unfolding table_by header_of has_section
   first-table = ⊎_elim (λ e. rw e (sym numbered-zero)) (λ t. rw t.is (sym (is-there t))) (find-hit (header_in f h) (is_type 2) h.sections)
     where
-      is-there : (t : Hit (header_in f h) (is_type 2) h.sections) → section_by f h (1 + t.at) ≡ some (header_in f h t.at)
+      is-there : (t : Hit (header_in f h) (is_type 2) h.sections) → section_by f h (1 + t.at) ≡ Some (header_in f h t.at)
       is-there t =
           find_first (header_in f h) (λ s. eqb s.index (1 + t.at)) h.sections t.at t.below (λ i l. ne_eqb (1 + i) (1 + t.at) (λ q. omega arith))
           (eq-eqb (1 + t.at) (1 + t.at) refl)

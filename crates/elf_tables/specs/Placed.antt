@@ -1,9 +1,8 @@
 -- The layout by the number of the symbol table, and why its places fit 32 bits.
-use Rattle.std.specs.Prelude.{◌≡◌, Bool, cond, ◌&&◌, ◌||◌, List, ℕ, ◌+◌, ◌-◌, ◌*◌, ◌/◌, ◌<◌, ◌≤◌, eqb, leb, length}
+use Rattle.std.specs.Prelude.{◌≡◌, Bool, cond, ◌&&◌, ◌||◌, List, ℕ, ◌+◌, ◌-◌, ◌*◌, ◌/◌, ◌<◌, ◌≤◌, eqb, leb, length, None, Option, Some}
 use Rattle.std.proofs.Math.Path.{refl}
 use Rattle.std.proofs.Common.{ap, ◌∙◌, ⊎_elim, arith, leb-true, eqb-true, ne_eqb}
 use Rattle.std.proofs.Math.Bool.{true, false}
-use Rattle.std.proofs.Math.Option.{Option, none, some}
 use Rattle.std.proofs.lemmas.Bool.{eqb-false}
 use Rattle.lists.specs.Tests.{both_true}
 use Rattle.model.specs.Bytes.{maybe, inside}
@@ -16,13 +15,13 @@ use Rattle.elf_header.specs.declared.Headers.{Headers}
 use Rattle.elf_header.specs.Headers.{header_in, file_header_of, headers_of, headers_in, sections-by-number, headers-present}
 use Rattle.elf_layout.specs.declared.Layout.{Layout}
 use Rattle.elf_layout.specs.Layout.{tables_ok, strings_start, table_symbols, symbols_start, table_number, elf_view, layout_of}
-use Rattle.elf_tables.specs.declared.Bounds.{Bounds}
+use Rattle.std.specs.declared.ops.Range.{Range}
 use Rattle.elf_laws.specs.All.{all-tab-at}
 use Rattle.elf_tables.specs.Walks.{find-hit}
 use Rattle.elf_tables.specs.Numbered.{sections_by, section_by, table_by, has_section, numbered-none, HasNumber, number_is, numbered-zero, first-table, file_by}
 
 -- where the string table of a number begins and ends
-unfoldable pub strings_by : List Header → ℕ → Bounds
+unfoldable pub strings_by : List Header → ℕ → Range ℕ
 strings_by hs n =
     record {
       start = maybe (section_numbered hs n) 0 strings_start;
@@ -68,10 +67,10 @@ pub record Reaches (h : Headers) (p : File) : Type 0 where
 -- ---- the layout of a file
 
 -- no section has number 0
-linked : {A : Type 0} (hs : List Header) (y : Option Header) (x : A) (g : Header → A) → section_numbered hs 0 ≡ none
+linked : {A : Type 0} (hs : List Header) (y : Option Header) (x : A) (g : Header → A) → section_numbered hs 0 ≡ None
     → maybe (section_numbered hs (table_link y)) x g ≡ maybe y x (λ t. maybe (section_numbered hs t.link) x g)
-linked hs none x g e = rw e
-linked hs (some t) x g e = refl
+linked hs None x g e = rw e
+linked hs (Some t) x g e = refl
 
 pub layout-by : (f : List ℕ) → layout_of f ≡ layout_by (headers_in f) (file_of f) (table_number (file_of f)) (entries_of (file_of f).relocations)
 unfolding layout_of elf_view layout_by strings_by headers_of file_header_of
@@ -80,7 +79,7 @@ layout-by f = rw (linked p.sections p.symbols 0 strings_start none-0, linked p.s
     p : File
     p = file_of f
 
-    none-0 : section_numbered (file_of f).sections 0 ≡ none
+    none-0 : section_numbered (file_of f).sections 0 ≡ None
     none-0 = ap (λ (l : List Header). section_numbered l 0) (sections-by-number f) ∙ numbered-zero f (headers_in f)
 
 -- ---- its places
@@ -134,16 +133,16 @@ module _ (f : List ℕ) (h : Headers) where
   strings-linked n = go (section_by f h n)
     where
       go : (y : Option Header) → maybe y false (is_type 3) ≡ true → maybe y true (is_type 3) ≡ true
-      go none e = refl
-      go (some t) e = e
+      go None e = refl
+      go (Some t) e = e
 
   table-typed : maybe (section_by f h (table_by f h)) true (is_type 2) ≡ true
   table-typed = rw (← first-table f h) (⊎_elim (λ e. rw e) (λ t. rw t.is t.passes) (find-hit (header_in f h) (is_type 2) h.sections))
 
   table-strings : (y : Option Header) → maybe y true (λ t. links_strings (sections_by f h) t.link && whole_entries t) ≡ true
       → maybe (section_by f h (table_link y)) true (is_type 3) ≡ true
-  table-strings none e = rw (numbered-zero f h)
-  table-strings (some t) e = let (a, b) = both_true (links_strings (sections_by f h) t.link) (whole_entries t) e in strings-linked t.link a
+  table-strings None e = rw (numbered-zero f h)
+  table-strings (Some t) e = let (a, b) = both_true (links_strings (sections_by f h) t.link) (whole_entries t) e in strings-linked t.link a
 
 pub in_reach : (f : List ℕ) (p : FileHeader) →
     let h = headers_of (length f) p in
@@ -178,9 +177,9 @@ in_reach f p e =
     named m e = let z : p.count ≡ 0 → ⊥ = λ q. omega (arith, m.from, m.to) in rw (ne_eqb p.count 0 z) at e
 
     inner : (y : Option Header) → maybe y 0 (λ t. strings_start t + t.size) ≤ 16777216 → maybe y 0 symbols_start ≤ 16777216
-    inner none l = l
-    inner (some t) l = second t l
+    inner None l = l
+    inner (Some t) l = second t l
 
     less : (y : Option Header) → maybe y 0 (λ t. entry_count t) ≤ 65537 → maybe y 0 table_symbols ≤ 65536
-    less none l = omega arith
-    less (some t) l = omega arith
+    less None l = omega arith
+    less (Some t) l = omega arith

@@ -1,401 +1,396 @@
 // Numbers 25 and 26 of an ELF file by its headers, all but the names; the layout of a file that passes.
 #![tactic(auto)]
 
-ghost use Rattle.std.specs.Prelude.{◌≡◌, true, ◌||◌, ◌+◌, ◌*◌, ◌<◌, ◌≤◌, eqb, length};
+ghost use Rattle.std.specs.Prelude.{◌≡◌, true, ◌||◌, ◌+◌, ◌*◌, ◌<◌, ◌≤◌, eqb, length, Err};
 ghost use Rattle.model.specs.Bytes.{maybe, inside};
 ghost use Rattle.model.specs.Deposit.{all};
 ghost use Rattle.model.specs.Elf.{whole_entries};
 ghost use Rattle.model.specs.ElfRefusals.{entry_ok, header_ok, links_strings, reloc_table_ok};
-ghost use Rattle.elf_header.specs.Headers.{header_in};
+ghost use Rattle.elf_header.specs.Headers.{header_in, file_header_of, headers_in};
 ghost use Rattle.elf_header.specs.Used.{used_in};
 ghost use Rattle.elf_layout.specs.Layout.{table_symbols, symbols_start, file_refusal, checked_file};
-ghost use Rattle.elf_layout.specs.declared.FileCheck.{FileCheck};
-ghost use Rattle.elf_tables.specs.Numbered.{Present, sections_by, section_by, table_by, has_section, file_by};
+ghost use Rattle.elf_tables.specs.Numbered.{Present, sections_by, section_by, table_by, IndexBy, file_by};
 ghost use Rattle.elf_tables.specs.Checked.{kind_by, room_ok, linked_type, symbol_table_fits, counted_by, tables_by};
-ghost use Rattle.elf_tables.specs.Placed.{strings_by, Reaches, layout_by};
+ghost use Rattle.elf_tables.specs.Placed.{table_link, strings_by, Reaches, layout_by};
 
 use elf_header::{
-    FileHeader, Headers, entry_count, entry_size, file_header, file_order, in_use, is_relocations,
-    section_headers, section_info, section_link, section_offset, section_size, section_type,
+    FileHeader, Sections, entry_size, file_header, file_order, is_relocations, section_headers,
 };
 use elf_ident::{field_is, first_bytes_ok};
-use elf_layout::{FileCheck, Layout};
+use elf_layout::Layout;
 use model::{Refusal, SectionIndex, SymbolIndex};
 use object_view::{Form, Places, Strings, View};
-use stream::{size, wide64};
+use std::ops::Range;
 
-// The number of the first symbol table, 0 where there is none.
-fn symbol_table(d: &[u8], h: Headers) -> u32
-    requires { Present d.now h }
-    ensures { result ≡ table_by d.now h }
+// A file whose section headers have their first 48 bytes present, and the number of its first symbol table.
+// Where there is none, that is 0, which no section has in ELF: the tables in use are then those linked to 0.
+#[derive(Clone, Copy)]
+struct ElfFile<'a> {
+    header: FileHeader,
+    sections: Sections<'a>,
+    table: u32,
+    ghost present: { Present sections.bytes.now sections.headers },
+}
+
+fn symbol_table(sections: Sections) -> u32
+    requires { Present sections.bytes.now sections.headers }
+    ensures { result ≡ table_by sections.entry.bytes.now sections.entry.headers }
 {
-    let mut i: u32 = 0;
-    while i < h.sections {
-        if section_type(d, h, i) == 2 {
+    for i in 0..sections.headers.sections {
+        if sections.section_type(i) == 2 {
             return i + 1;
         }
-        i += 1;
     }
     0
 }
-
-// Entry 0 is no section.
-fn is_section(h: Headers, n: u32) -> bool
-    ensures { result ≡ has_section h n }
-{
-    if n == 0 {
-        return false;
-    }
-    n <= h.sections
-}
-
-// ---- 25
-
-// Compares sh_entsize of section i, as far as it is present.
-fn entry_ok(d: &[u8], h: Headers, i: u32) -> bool
-    requires { h.first + 64 * i + 48 ≤ length d.now }
-    ensures { result ≡ entry_ok h.order (header_in d.now h i) }
-{
-    let order = h.order;
-    let width = entry_size(section_type(d, h, i));
-    field_is(d, order, h.first + 64 * size(i) + 56, 8, width as u8)
-}
-
-fn table_entry_ok(d: &[u8], h: Headers, table: u32) -> bool
-    requires { Present d.now h }
-    ensures { result ≡ maybe (section_by d.now h table) true (entry_ok h.order) }
-{
-    if !is_section(h, table) {
-        return true;
-    }
-    entry_ok(d, h, table - 1)
-}
-
-fn used_entries_ok(d: &[u8], h: Headers, table: u32) -> bool
-    requires { Present d.now h }
-    ensures { result ≡ all (entry_ok h.order) (used_in d.now h table) }
-{
-    let mut i: u32 = 0;
-    while i < h.sections {
-        if in_use(d, h, table, i) {
-            if !entry_ok(d, h, i) {
-                return false;
-            }
-        }
-        i += 1;
-    }
-    true
-}
-
-fn kind_ok(d: &[u8], h: Headers, table: u32) -> bool
-    requires { Present d.now h }
-    ensures { result ≡ kind_by d.now h table }
-{
-    let order = h.order;
-    if !first_bytes_ok(d, order) {
-        return false;
-    }
-    if !table_entry_ok(d, h, table) {
-        return false;
-    }
-    used_entries_ok(d, h, table)
-}
-
-// ---- 26
 
 // Tells whether n bytes from a place on end within len bytes; their sum may pass 64 bits.
 fn inside_file(len: usize, at: u64, n: u64) -> bool
     ensures { result ≡ inside at n len }
 {
     let most = len as u64;
-    if n > most {
-        return false;
-    }
-    at <= most - n
+    n <= most && at <= most - n
 }
 
 // The length and the count of entries keep their limits, and the table of section headers lies inside the file.
+#[tactic(auto, unfolding(crate::specs::Checked::room_ok))]
 fn room_ok(len: usize, f: FileHeader) -> bool
     ensures { result ≡ room_ok len f }
 {
-    if len > 16777216 {
-        return false;
-    }
-    if f.count > 4097 {
-        return false;
-    }
-    if f.count == 0 {
-        return true;
-    }
-    inside_file(len, f.at, 64 * wide64(f.count))
+    len <= 16777216
+        && f.count <= 4097
+        && (f.count == 0 || inside_file(len, f.at, 64 * u64::from(f.count)))
 }
 
-// The type of section n; where there is none, that of a REL table, because no link may name one.
-fn linked_type(d: &[u8], h: Headers, n: u32) -> u32
-    requires { Present d.now h }
-    ensures { result ≡ linked_type (sections_by d.now h) n }
-{
-    if !is_section(h, n) {
-        return 9;
-    }
-    section_type(d, h, n - 1)
-}
-
-fn names_linked(d: &[u8], f: FileHeader, h: Headers) -> bool
-    requires { Present d.now h }
-    ensures { result ≡ (eqb f.count 0 || links_strings (sections_by d.now h) f.names) }
-{
-    if f.count == 0 {
-        return true;
-    }
-    linked_type(d, h, f.names) == 3
-}
-
-fn whole_entries(d: &[u8], h: Headers, i: u32) -> bool
-    requires { h.first + 64 * i + 48 ≤ length d.now }
-    ensures { result ≡ whole_entries (header_in d.now h i) }
-{
-    let width = entry_size(section_type(d, h, i));
-    section_size(d, h, i) % width == 0
-}
-
-fn symbol_table_fits(d: &[u8], h: Headers, table: u32) -> bool
-    requires { Present d.now h }
-    ensures { result ≡ symbol_table_fits (sections_by d.now h) (section_by d.now h table) }
-{
-    if !is_section(h, table) {
-        return true;
-    }
-    let i = table - 1;
-    if entry_count(d, h, i) > 65537 {
-        return false;
-    }
-    if linked_type(d, h, section_link(d, h, i)) != 3 {
-        return false;
-    }
-    whole_entries(d, h, i)
-}
-
-#[tactic(auto, unfolding(model::specs::ElfRefusals::header_ok))]
-fn header_ok(d: &[u8], h: Headers, i: u32) -> bool
-    requires { h.first + 64 * i + 48 ≤ length d.now }
-    ensures { result ≡ header_ok (length d.now) (header_in d.now h i) }
-{
-    let n = section_size(d, h, i);
-    if n > 16777216 {
-        return false;
-    }
-    if section_type(d, h, i) == 8 {
-        return true;
-    }
-    if n == 0 {
-        return true;
-    }
-    inside_file(d.len(), section_offset(d, h, i), n)
-}
-
-fn reloc_table_ok(d: &[u8], h: Headers, i: u32) -> bool
-    requires { Present d.now h × (i < h.sections) }
-    ensures { result ≡ reloc_table_ok (sections_by d.now h) (header_in d.now h i) }
-{
-    if is_relocations(linked_type(d, h, section_info(d, h, i))) {
-        return false;
-    }
-    whole_entries(d, h, i)
-}
-
-// What a pass over the sections answers: how many relocations there are, or that a rule is broken.
-#[derive(Clone, Copy)]
-enum Counted {
-    Entries(u32),
-    Broken,
-}
-
-fn count_relocations(d: &[u8], h: Headers, table: u32) -> Counted
-    requires { Present d.now h }
-    ensures { result ≡ counted_by d.now h table }
-{
-    let mut n: u64 = 0;
-    let mut i: u32 = 0;
-    while i < h.sections {
-        if !header_ok(d, h, i) {
-            return Counted::Broken;
+impl<'a> ElfFile<'a> {
+    fn read(d: &'a [u8]) -> Self
+        requires { 64 ≤ length d.now }
+        ensures bytes { result.sections.bytes.now ≡ d.now }
+        ensures header { result.header ≡ file_header_of d.now }
+        ensures headers { result.sections.headers ≡ headers_in d.now }
+        ensures table { result.table ≡ table_by d.now (headers_in d.now) }
+    {
+        let header = file_header(d);
+        let sections = section_headers(d, header);
+        let table = symbol_table(sections);
+        ElfFile {
+            header,
+            sections,
+            table,
         }
-        if in_use(d, h, table, i) {
-            if !reloc_table_ok(d, h, i) {
-                return Counted::Broken;
+    }
+
+    // Where the header of section n stands, counted from 0. Number 0 is no section.
+    fn index(self, n: u32) -> Option<u32>
+        ensures { IndexBy self.entry.sections.bytes.now self.entry.sections.headers n result }
+    {
+        if n == 0 || n > self.sections.headers.sections {
+            None
+        } else {
+            Some(n - 1)
+        }
+    }
+
+    // ---- 25
+
+    // Compares sh_entsize of section i, as far as it is present.
+    fn entry_ok(self, i: u32) -> bool
+        requires { i < self.sections.headers.sections }
+        ensures { result ≡ entry_ok self.entry.sections.headers.order (header_in self.entry.sections.bytes.now self.entry.sections.headers i) }
+    {
+        let h = self.sections.headers;
+        let width = entry_size(self.sections.section_type(i));
+        let at = h.first + 64 * i as usize + 56;
+        field_is(self.sections.bytes, h.order, at, 8, width as u8)
+    }
+
+    fn table_entry_ok(self) -> bool
+        ensures { result
+            ≡ maybe (section_by self.entry.sections.bytes.now self.entry.sections.headers self.entry.table) true
+            (entry_ok self.entry.sections.headers.order) }
+    {
+        match self.index(self.table) {
+            Some(i) => self.entry_ok(i),
+            None => true,
+        }
+    }
+
+    fn used_entries_ok(self) -> bool
+        ensures { result
+            ≡ all (entry_ok self.entry.sections.headers.order)
+            (used_in self.entry.sections.bytes.now self.entry.sections.headers self.entry.table) }
+    {
+        for i in 0..self.sections.headers.sections {
+            if self.sections.in_use(self.table, i) && !self.entry_ok(i) {
+                return false;
             }
-            n += entry_count(d, h, i);
         }
-        i += 1;
+        true
     }
-    if n > 65536 {
-        return Counted::Broken;
+
+    #[tactic(auto, unfolding(crate::specs::Checked::kind_by))]
+    fn kind_ok(self) -> bool
+        ensures { result ≡ kind_by self.entry.sections.bytes.now self.entry.sections.headers self.entry.table }
+    {
+        first_bytes_ok(self.sections.bytes, self.sections.headers.order)
+            && self.table_entry_ok()
+            && self.used_entries_ok()
     }
-    Counted::Entries(n as u32)
+
+    // ---- 26
+
+    // The type of the section that a link names.
+    #[tactic(auto, unfolding(crate::specs::Checked::linked_type))]
+    fn linked_type(self, n: u32) -> Option<u32>
+        ensures { result ≡ linked_type (sections_by self.entry.sections.bytes.now self.entry.sections.headers) n }
+    {
+        let i = self.index(n)?;
+        Some(self.sections.section_type(i))
+    }
+
+    fn links_strings(self, n: u32) -> bool
+        ensures { result ≡ links_strings (sections_by self.entry.sections.bytes.now self.entry.sections.headers) n }
+    {
+        match self.linked_type(n) {
+            Some(kind) => kind == 3,
+            None => false,
+        }
+    }
+
+    fn names_linked(self) -> bool
+        ensures { result
+            ≡ (eqb self.entry.header.count 0
+            || links_strings (sections_by self.entry.sections.bytes.now self.entry.sections.headers) self.entry.header.names) }
+    {
+        self.header.count == 0 || self.links_strings(self.header.names)
+    }
+
+    fn whole_entries(self, i: u32) -> bool
+        requires { i < self.sections.headers.sections }
+        ensures { result ≡ whole_entries (header_in self.entry.sections.bytes.now self.entry.sections.headers i) }
+    {
+        let width = entry_size(self.sections.section_type(i));
+        self.sections.section_size(i) % width == 0
+    }
+
+    #[tactic(auto, unfolding(crate::specs::Checked::symbol_table_fits))]
+    fn symbol_table_fits(self) -> bool
+        ensures { result
+            ≡ symbol_table_fits (sections_by self.entry.sections.bytes.now self.entry.sections.headers)
+            (section_by self.entry.sections.bytes.now self.entry.sections.headers self.entry.table) }
+    {
+        match self.index(self.table) {
+            Some(i) => {
+                self.sections.entry_count(i) <= 65537
+                    && self.links_strings(self.sections.section_link(i))
+                    && self.whole_entries(i)
+            }
+            None => true,
+        }
+    }
+
+    #[tactic(auto, unfolding(model::specs::ElfRefusals::header_ok))]
+    fn header_ok(self, i: u32) -> bool
+        requires { i < self.sections.headers.sections }
+        ensures { result
+            ≡ header_ok (length self.entry.sections.bytes.now)
+            (header_in self.entry.sections.bytes.now self.entry.sections.headers i) }
+    {
+        let n = self.sections.section_size(i);
+        let is_nobits = self.sections.section_type(i) == 8;
+        n <= 16777216
+            && (is_nobits
+                || n == 0
+                || inside_file(
+                    self.sections.bytes.len(),
+                    self.sections.section_offset(i),
+                    n,
+                ))
+    }
+
+    #[tactic(auto, unfolding(model::specs::ElfRefusals::reloc_table_ok))]
+    fn reloc_table_ok(self, i: u32) -> bool
+        requires { i < self.sections.headers.sections }
+        ensures { result
+            ≡ reloc_table_ok (sections_by self.entry.sections.bytes.now self.entry.sections.headers)
+            (header_in self.entry.sections.bytes.now self.entry.sections.headers i) }
+    {
+        match self.linked_type(self.sections.section_info(i)) {
+            Some(kind) => !is_relocations(kind) && self.whole_entries(i),
+            None => false,
+        }
+    }
+
+    // Counts the relocations; None where a section or a table in use breaks a rule.
+    fn count_relocations(self) -> Option<u32>
+        ensures { result ≡ counted_by self.entry.sections.bytes.now self.entry.sections.headers self.entry.table }
+    {
+        let mut n: u64 = 0;
+        for i in 0..self.sections.headers.sections {
+            if !self.header_ok(i) {
+                return None;
+            }
+            if self.sections.in_use(self.table, i) {
+                if !self.reloc_table_ok(i) {
+                    return None;
+                }
+                n += self.sections.entry_count(i);
+            }
+        }
+        if n > 65536 {
+            return None;
+        }
+        Some(n as u32)
+    }
+
+    // Counts them; None where any rule of 26 but those of names is broken.
+    fn check_tables(self) -> Option<u32>
+        requires { 64 ≤ length self.sections.bytes.now }
+        ensures { result
+            ≡ tables_by self.entry.sections.bytes.now
+            (file_by self.entry.sections.bytes.now self.entry.header self.entry.sections.headers self.entry.table) }
+    {
+        if room_ok(self.sections.bytes.len(), self.header)
+            && self.names_linked()
+            && self.symbol_table_fits()
+        {
+            self.count_relocations()
+        } else {
+            None
+        }
+    }
+
+    // ---- the layout
+
+    // Where string table n begins and ends; one without bytes is nowhere.
+    #[tactic(auto, unfolding(crate::specs::Placed::strings_by))]
+    fn strings(self, n: u32) -> Range<u32>
+        requires { (strings_by (sections_by self.sections.bytes.now self.sections.headers) n).end ≤ 16777216 }
+        ensures { result ≡ strings_by (sections_by self.entry.sections.bytes.now self.entry.sections.headers) n }
+    {
+        let Some(i) = self.index(n) else {
+            return 0..0;
+        };
+        let bytes = self.sections.section_size(i);
+        if bytes == 0 {
+            return 0..0;
+        }
+        let at = self.sections.section_offset(i);
+        at as u32..(at + bytes) as u32
+    }
+
+    // The number of the symbols' string table; without a symbol table that of no section.
+    fn table_link(self) -> u32
+        ensures { result ≡ table_link (section_by self.entry.sections.bytes.now self.entry.sections.headers self.entry.table) }
+    {
+        match self.index(self.table) {
+            Some(i) => self.sections.section_link(i),
+            None => 0,
+        }
+    }
+
+    // Entry 0 is no symbol.
+    fn symbol_count(self) -> u32
+        requires { maybe (section_by self.sections.bytes.now self.sections.headers self.table) 0 table_symbols ≤ 65536 }
+        ensures { result
+            ≡ maybe (section_by self.entry.sections.bytes.now self.entry.sections.headers self.entry.table) 0 table_symbols }
+    {
+        match self.index(self.table) {
+            Some(i) => self.sections.entry_count(i).saturating_sub(1) as u32,
+            None => 0,
+        }
+    }
+
+    fn symbols_start(self) -> u32
+        requires { maybe (section_by self.sections.bytes.now self.sections.headers self.table) 0 symbols_start ≤ 16777216 }
+        ensures { result
+            ≡ maybe (section_by self.entry.sections.bytes.now self.entry.sections.headers self.entry.table) 0 symbols_start }
+    {
+        match self.index(self.table) {
+            Some(i) if self.sections.entry_count(i) > 1 => {
+                (self.sections.section_offset(i) + 24) as u32
+            }
+            _ => 0,
+        }
+    }
+
+    #[tactic(auto, unfolding(crate::specs::Placed::layout_by, crate::specs::Numbered::file_by))]
+    fn layout(self, relocations: u32) -> Layout
+        requires { Reaches self.sections.headers
+            (file_by self.sections.bytes.now self.header self.sections.headers self.table) }
+        ensures { result
+            ≡ layout_by self.entry.sections.headers
+            (file_by self.entry.sections.bytes.now self.entry.header self.entry.sections.headers self.entry.table)
+            self.entry.table relocations }
+    {
+        let h = self.sections.headers;
+        let names = self.strings(self.header.names);
+        let symbols = self.strings(self.table_link());
+        let view = View {
+            form: Form::Elf,
+            order: h.order,
+            sections: h.sections,
+            symbols: self.symbol_count(),
+            relocations,
+            at: Places {
+                sections: h.first as u32,
+                symbols: self.symbols_start(),
+                relocations: 0,
+                names: 0,
+                bytes: 0,
+            },
+            strings: Strings {
+                sections: names.start,
+                symbols: symbols.start,
+            },
+        };
+        Layout {
+            view,
+            ends: Strings {
+                sections: names.end,
+                symbols: symbols.end,
+            },
+            table: self.table,
+        }
+    }
 }
 
-fn check_tables(d: &[u8], f: FileHeader, h: Headers, table: u32) -> Counted
-    requires { (64 ≤ length d.now) × Present d.now h }
-    ensures { result ≡ tables_by d.now (file_by d.now f h table) }
+fn refusal(number: u32) -> Refusal
+    ensures { result ≡ file_refusal number }
 {
-    if !room_ok(d.len(), f) {
-        return Counted::Broken;
-    }
-    if !names_linked(d, f, h) {
-        return Counted::Broken;
-    }
-    if !symbol_table_fits(d, h, table) {
-        return Counted::Broken;
-    }
-    count_relocations(d, h, table)
-}
-
-// ---- the layout
-
-// Where a string table begins and ends; one without bytes is nowhere.
-#[derive(Clone, Copy)]
-struct Bounds {
-    start: u32,
-    end: u32,
-}
-
-fn strings(d: &[u8], h: Headers, n: u32) -> Bounds
-    requires { Present d.now h × ((strings_by (sections_by d.now h) n).end ≤ 16777216) }
-    ensures { result ≡ strings_by (sections_by d.now h) n }
-{
-    if !is_section(h, n) {
-        return Bounds { start: 0, end: 0 };
-    }
-    let i = n - 1;
-    let bytes = section_size(d, h, i);
-    if bytes == 0 {
-        return Bounds { start: 0, end: 0 };
-    }
-    let at = section_offset(d, h, i);
-    Bounds {
-        start: at as u32,
-        end: (at + bytes) as u32,
-    }
-}
-
-fn table_link(d: &[u8], h: Headers, table: u32) -> u32
-    requires { Present d.now h }
-    ensures { result ≡ maybe (section_by d.now h table) 0 (λ t. t.link) }
-{
-    if !is_section(h, table) {
-        return 0;
-    }
-    section_link(d, h, table - 1)
-}
-
-// Entry 0 is no symbol.
-fn symbol_count(d: &[u8], h: Headers, table: u32) -> u32
-    requires { Present d.now h × (maybe (section_by d.now h table) 0 table_symbols ≤ 65536) }
-    ensures { result ≡ maybe (section_by d.now h table) 0 table_symbols }
-{
-    if !is_section(h, table) {
-        return 0;
-    }
-    let n = entry_count(d, h, table - 1);
-    if n == 0 {
-        return 0;
-    }
-    (n - 1) as u32
-}
-
-fn symbols_start(d: &[u8], h: Headers, table: u32) -> u32
-    requires { Present d.now h × (maybe (section_by d.now h table) 0 symbols_start ≤ 16777216) }
-    ensures { result ≡ maybe (section_by d.now h table) 0 symbols_start }
-{
-    if !is_section(h, table) {
-        return 0;
-    }
-    let i = table - 1;
-    if entry_count(d, h, i) <= 1 {
-        return 0;
-    }
-    (section_offset(d, h, i) + 24) as u32
-}
-
-fn file_layout(d: &[u8], f: FileHeader, h: Headers, table: u32, relocations: u32) -> Layout
-    requires { Present d.now h × Reaches h (file_by d.now f h table) }
-    ensures { result ≡ layout_by h (file_by d.now f h table) table relocations }
-{
-    let order = h.order;
-    let names = strings(d, h, f.names);
-    let symbols = strings(d, h, table_link(d, h, table));
-    let view = View {
-        form: Form::Elf,
-        order,
-        sections: h.sections,
-        symbols: symbol_count(d, h, table),
-        relocations,
-        at: Places {
-            sections: h.first as u32,
-            symbols: symbols_start(d, h, table),
-            relocations: 0,
-            names: 0,
-            bytes: 0,
-        },
-        strings: Strings {
-            sections: names.start,
-            symbols: symbols.start,
-        },
-    };
-    Layout {
-        view,
-        ends: Strings {
-            sections: names.end,
-            symbols: symbols.end,
-        },
-        table,
-    }
-}
-
-fn refused(number: u32) -> FileCheck
-    ensures { result ≡ FileCheck.Refused (file_refusal number) }
-{
-    FileCheck::Refused(Refusal {
+    Refusal {
         number,
         section: SectionIndex(0),
         symbol: SymbolIndex(0),
         entry: 0,
-    })
+    }
 }
 
 // A file without a whole header has no sections, and is 26 where it is not 25.
-fn check_short(d: &[u8]) -> FileCheck
+fn check_short(d: &[u8]) -> Refusal
     requires { length d.now < 64 }
-    ensures { result ≡ checked_file d.now }
+    ensures { checked_file d.now ≡ Err result }
 {
-    if !first_bytes_ok(d, file_order(d)) {
-        return refused(25);
+    if first_bytes_ok(d, file_order(d)) {
+        refusal(26)
+    } else {
+        refusal(25)
     }
-    refused(26)
 }
 
 // Checks a file's headers and tables.
-pub fn check(d: &[u8]) -> FileCheck
+pub fn check(d: &[u8]) -> Result<Layout, Refusal>
     ensures { result ≡ checked_file d.now }
 {
     if d.len() < 64 {
-        return check_short(d);
+        return Err(check_short(d));
     }
-    let f = file_header(d);
-    let h = section_headers(d.len(), f);
-    let table = symbol_table(d, h);
-    if !kind_ok(d, h, table) {
-        return refused(25);
+    let file = ElfFile::read(d);
+    if !file.kind_ok() {
+        return Err(refusal(25));
     }
-    match check_tables(d, f, h, table) {
-        Counted::Entries(relocations) => FileCheck::Layout(file_layout(
-            d,
-            f,
-            h,
-            table,
-            relocations,
-        )),
-        Counted::Broken => refused(26),
+    match file.check_tables() {
+        Some(relocations) => Ok(file.layout(relocations)),
+        None => Err(refusal(26)),
     }
 }

@@ -1,11 +1,9 @@
 -- Whole files: 3 to 24, catalogues, what is lent and what is listed, in the two byte orders.
-use Rattle.std.specs.Prelude.{◌≡◌, refl, true, false, List, [], ◌∷◌, ◌++◌, map, ℕ, pos, take, replicate}
+use Rattle.std.specs.Prelude.{◌≡◌, refl, true, false, List, [], ◌∷◌, ◌++◌, map, ℕ, pos, take, replicate, Err, None, Some}
 use Rattle.model.specs.declared.Endianness.{Endianness}
 use Rattle.model.specs.declared.EbpfSectionKind.{EbpfSectionKind as Kind}
-use Rattle.model.specs.declared.KernelVersion.{KernelVersion}
 use Rattle.model.specs.declared.XdpAttachType.{XdpAttachType}
 use Rattle.model.specs.declared.ProgramSection.{ProgramSection}
-use Rattle.model.specs.declared.Answer.{Answer}
 use Rattle.model.specs.Bytes.{ascii}
 use Rattle.model.specs.Catalogue.{Catalogue}
 use Rattle.model.specs.Patching.{Verdict}
@@ -104,7 +102,7 @@ whole_catalogue o =
     record {
       order = o;
       licence = 88 ∷ [];
-      version = KernelVersion.Any;
+      version = None;
       sections =
           entry ".bss" 4 3
           ∷ entry ".data" 3 2
@@ -136,7 +134,7 @@ whole-catalogue = refl
 -- licence GPL, version any, no rows (E10)
 abbrev empty_catalogue : Endianness → Catalogue
 empty_catalogue o =
-    record { order = o; licence = ascii "GPL"; version = KernelVersion.Any; sections = []; programs = []; functions = []; maps = []; relocations = [] }
+    record { order = o; licence = ascii "GPL"; version = None; sections = []; programs = []; functions = []; maps = []; relocations = [] }
 
 no-sections : in_both (λ o. loaded_file (take 64 (changed o (e_shoff 0 ∷ []) (whole_file o))) [] false) ≡ in_both (λ o. Verdict.accepted (empty_catalogue o))
 unfolding loaded_file
@@ -151,7 +149,7 @@ version_and_maps o =
     ∷ data_section ".strtab" 3 0 (string_table ("m" ∷ []))
     ∷ []
 
-version-by-order : map (λ v. (catalogue_in v).version) (sections_say version_and_maps) ≡ KernelVersion.Version 67305985 ∷ KernelVersion.Version 16909060 ∷ []
+version-by-order : map (λ v. (catalogue_in v).version) (sections_say version_and_maps) ≡ Some 67305985 ∷ Some 16909060 ∷ []
 unfolding loaded_file
 version-by-order = refl
 
@@ -199,7 +197,7 @@ lent-names = refl
 
 -- 24 comes last
 lent-short : in_both (λ o. (called_file (one_section o) [] [] false (room 8 0 0 0 0 9)).reply)
-    ≡ twice (Answer.Refused (record { number = 24; section = record { 0 = 0 }; symbol = record { 0 = 0 }; entry = 0 }))
+    ≡ twice (Err (record { number = 24; section = record { 0 = 0 }; symbol = record { 0 = 0 }; entry = 0 }))
 unfolding called_file
 lent-short = refl
 

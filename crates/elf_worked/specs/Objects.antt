@@ -1,6 +1,5 @@
 -- The objects that files state, in the two byte orders.
-use Rattle.std.specs.Prelude.{◌≡◌, refl, Bool, true, false, List, [], ◌∷◌, ◌++◌, map, ℕ, replicate}
-use Rattle.std.proofs.Math.Option.{none, some}
+use Rattle.std.specs.Prelude.{◌≡◌, refl, Bool, true, false, List, [], ◌∷◌, ◌++◌, map, ℕ, replicate, None, Some}
 use Rattle.model.specs.declared.Endianness.{Endianness}
 use Rattle.model.specs.declared.SymbolKind.{SymbolKind}
 use Rattle.model.specs.Bytes.{ascii, each}
@@ -15,8 +14,8 @@ whole_object o =
     record {
       order = o;
       sections =
-          stated_section 1 true (ascii ".text") 0 16 whole_code (stated_reloc 8 (some 3) 64 ∷ [])
-          ∷ stated_section 2 true (ascii "xdp") 0 8 (183 ∷ 0 ∷ 0 ∷ 0 ∷ 3 ∷ 0 ∷ 0 ∷ 0 ∷ []) (stated_reloc 0 (some 1) 32 ∷ [])
+          stated_section 1 true (ascii ".text") 0 16 whole_code (stated_reloc 8 (Some 3) 64 ∷ [])
+          ∷ stated_section 2 true (ascii "xdp") 0 8 (183 ∷ 0 ∷ 0 ∷ 0 ∷ 3 ∷ 0 ∷ 0 ∷ 0 ∷ []) (stated_reloc 0 (Some 1) 32 ∷ [])
           ∷ stated_section 3 false (ascii ".data") 0 2 (7 ∷ 8 ∷ []) []
           ∷ stated_section 4 false (ascii ".bss") 0 3 [] []
           ∷ stated_section 5 false (ascii "license") 0 2 (88 ∷ 0 ∷ []) []
@@ -28,9 +27,9 @@ whole_object o =
           (string_table (".text" ∷ "xdp" ∷ ".data" ∷ ".bss" ∷ "license" ∷ ".symtab" ∷ ".strtab" ∷ ".rel" ∷ ".rela" ∷ ".names" ∷ [])) []
           ∷ [];
       symbols =
-          stated_symbol 1 (some 1) (ascii "helper") 0 16 SymbolKind.Text true
-          ∷ stated_symbol 2 (some 2) (ascii "pass") 0 8 SymbolKind.Text true
-          ∷ stated_symbol 3 (some 3) (ascii "rate") 0 2 SymbolKind.Data true
+          stated_symbol 1 (Some 1) (ascii "helper") 0 16 SymbolKind.Text true
+          ∷ stated_symbol 2 (Some 2) (ascii "pass") 0 8 SymbolKind.Text true
+          ∷ stated_symbol 3 (Some 3) (ascii "rate") 0 2 SymbolKind.Data true
           ∷ [];
     }
 
@@ -61,52 +60,52 @@ nameless t s z o = symbol_entry o 0 t s 0 z
 
 -- section 0 or from 0xFF00 on is none; a number that no section has stays
 symbol-sections : symbols_stated (0 ∷ []) (λ o. each (λ s. nameless 2 s 0 o) (0 ∷ 1 ∷ 256 ∷ 65279 ∷ 65280 ∷ 65521 ∷ 65535 ∷ []))
-    ≡ twice (stated_symbol 1 none [] 0 0 SymbolKind.Text false
-    ∷ stated_symbol 2 (some 1) [] 0 0 SymbolKind.Text true
-    ∷ stated_symbol 3 (some 256) [] 0 0 SymbolKind.Text true
-    ∷ stated_symbol 4 (some 65279) [] 0 0 SymbolKind.Text true
-    ∷ stated_symbol 5 none [] 0 0 SymbolKind.Text false
-    ∷ stated_symbol 6 none [] 0 0 SymbolKind.Text false
-    ∷ stated_symbol 7 none [] 0 0 SymbolKind.Text false
+    ≡ twice (stated_symbol 1 None [] 0 0 SymbolKind.Text false
+    ∷ stated_symbol 2 (Some 1) [] 0 0 SymbolKind.Text true
+    ∷ stated_symbol 3 (Some 256) [] 0 0 SymbolKind.Text true
+    ∷ stated_symbol 4 (Some 65279) [] 0 0 SymbolKind.Text true
+    ∷ stated_symbol 5 None [] 0 0 SymbolKind.Text false
+    ∷ stated_symbol 6 None [] 0 0 SymbolKind.Text false
+    ∷ stated_symbol 7 None [] 0 0 SymbolKind.Text false
     ∷ [])
 unfolding object_stated
 symbol-sections = refl
 
 -- the low four bits of st_info: 2 is text, 1 data, every other is other and no definition
 symbol-types : symbols_stated (0 ∷ []) (λ o. each (λ t. nameless t 3 0 o) (0 ∷ 1 ∷ 2 ∷ 3 ∷ 10 ∷ 17 ∷ 34 ∷ 255 ∷ []))
-    ≡ twice (stated_symbol 1 (some 3) [] 0 0 SymbolKind.Other false
-    ∷ stated_symbol 2 (some 3) [] 0 0 SymbolKind.Data true
-    ∷ stated_symbol 3 (some 3) [] 0 0 SymbolKind.Text true
-    ∷ stated_symbol 4 (some 3) [] 0 0 SymbolKind.Other false
-    ∷ stated_symbol 5 (some 3) [] 0 0 SymbolKind.Other false
-    ∷ stated_symbol 6 (some 3) [] 0 0 SymbolKind.Data true
-    ∷ stated_symbol 7 (some 3) [] 0 0 SymbolKind.Text true
-    ∷ stated_symbol 8 (some 3) [] 0 0 SymbolKind.Other false
+    ≡ twice (stated_symbol 1 (Some 3) [] 0 0 SymbolKind.Other false
+    ∷ stated_symbol 2 (Some 3) [] 0 0 SymbolKind.Data true
+    ∷ stated_symbol 3 (Some 3) [] 0 0 SymbolKind.Text true
+    ∷ stated_symbol 4 (Some 3) [] 0 0 SymbolKind.Other false
+    ∷ stated_symbol 5 (Some 3) [] 0 0 SymbolKind.Other false
+    ∷ stated_symbol 6 (Some 3) [] 0 0 SymbolKind.Data true
+    ∷ stated_symbol 7 (Some 3) [] 0 0 SymbolKind.Text true
+    ∷ stated_symbol 8 (Some 3) [] 0 0 SymbolKind.Other false
     ∷ [])
 unfolding object_stated
 symbol-types = refl
 
-undefined-data : symbols_stated (0 ∷ []) (λ o. nameless 17 0 0 o) ≡ twice (stated_symbol 1 none [] 0 0 SymbolKind.Data false ∷ [])
+undefined-data : symbols_stated (0 ∷ []) (λ o. nameless 17 0 0 o) ≡ twice (stated_symbol 1 None [] 0 0 SymbolKind.Data false ∷ [])
 unfolding object_stated
 undefined-data = refl
 
 -- names may share bytes (E23)
 symbol-names-share : symbols_stated (string_table ("abcd" ∷ [])) (λ o. each (λ n. symbol_entry o n 0 0 0 0) (1 ∷ 3 ∷ 1 ∷ 5 ∷ []))
-    ≡ twice (stated_symbol 1 none (ascii "abcd") 0 0 SymbolKind.Other false
-    ∷ stated_symbol 2 none (ascii "cd") 0 0 SymbolKind.Other false
-    ∷ stated_symbol 3 none (ascii "abcd") 0 0 SymbolKind.Other false
-    ∷ stated_symbol 4 none [] 0 0 SymbolKind.Other false
+    ≡ twice (stated_symbol 1 None (ascii "abcd") 0 0 SymbolKind.Other false
+    ∷ stated_symbol 2 None (ascii "cd") 0 0 SymbolKind.Other false
+    ∷ stated_symbol 3 None (ascii "abcd") 0 0 SymbolKind.Other false
+    ∷ stated_symbol 4 None [] 0 0 SymbolKind.Other false
     ∷ [])
 unfolding object_stated
 symbol-names-share = refl
 
 symbol-numbers : symbols_stated (0 ∷ []) (λ o. symbol_entry o 0 0 0 9223372036854775813 1099511627783)
-    ≡ twice (stated_symbol 1 none [] 9223372036854775813 1099511627783 SymbolKind.Other false ∷ [])
+    ≡ twice (stated_symbol 1 None [] 9223372036854775813 1099511627783 SymbolKind.Other false ∷ [])
 unfolding object_stated
 symbol-numbers = refl
 
 -- st_other is free (E7)
-visibility-free : map (λ x. x.symbols) (small_states (byte_is 97 255 ∷ [])) ≡ twice (stated_symbol 1 (some 1) (ascii "a") 0 4 SymbolKind.Data true ∷ [])
+visibility-free : map (λ x. x.symbols) (small_states (byte_is 97 255 ∷ [])) ≡ twice (stated_symbol 1 (Some 1) (ascii "a") 0 4 SymbolKind.Data true ∷ [])
 unfolding object_stated
 visibility-free = refl
 
@@ -173,23 +172,23 @@ several-tables : relocs_stated (λ o. table_section ".rel" 9 2 1 16 (rel_entry o
     ∷ table_section ".rela" 4 2 1 24 (rela_entry o 8 3 10)
     ∷ table_section ".rel" 9 2 1 16 (rel_entry o 1 4 1)
     ∷ [])
-    ≡ twice ((stated_reloc 8 (some 1) 64 ∷ stated_reloc 0 (some 2) 64 ∷ stated_reloc 8 (some 3) 32 ∷ stated_reloc 1 (some 4) 64 ∷ [])
-    ∷ (stated_reloc 5 (some 5) 64 ∷ []) ∷ [] ∷ [] ∷ [] ∷ [] ∷ [] ∷ [] ∷ [])
+    ≡ twice ((stated_reloc 8 (Some 1) 64 ∷ stated_reloc 0 (Some 2) 64 ∷ stated_reloc 8 (Some 3) 32 ∷ stated_reloc 1 (Some 4) 64 ∷ [])
+    ∷ (stated_reloc 5 (Some 5) 64 ∷ []) ∷ [] ∷ [] ∷ [] ∷ [] ∷ [] ∷ [] ∷ [])
 unfolding object_stated
 several-tables = refl
 
 -- 1 has size 64, 10 has 32, every other 0
 relocation-types : relocs_stated (λ o. table_section ".rel" 9 2 1 16 (each (λ t. rel_entry o t 1 t) (0 ∷ 1 ∷ 2 ∷ 9 ∷ 10 ∷ 11 ∷ 257 ∷ 266 ∷ 16777216 ∷ 4294967295 ∷ [])) ∷ [])
-    ≡ twice ((stated_reloc 0 (some 1) 0
-    ∷ stated_reloc 1 (some 1) 64
-    ∷ stated_reloc 2 (some 1) 0
-    ∷ stated_reloc 9 (some 1) 0
-    ∷ stated_reloc 10 (some 1) 32
-    ∷ stated_reloc 11 (some 1) 0
-    ∷ stated_reloc 257 (some 1) 0
-    ∷ stated_reloc 266 (some 1) 0
-    ∷ stated_reloc 16777216 (some 1) 0
-    ∷ stated_reloc 4294967295 (some 1) 0
+    ≡ twice ((stated_reloc 0 (Some 1) 0
+    ∷ stated_reloc 1 (Some 1) 64
+    ∷ stated_reloc 2 (Some 1) 0
+    ∷ stated_reloc 9 (Some 1) 0
+    ∷ stated_reloc 10 (Some 1) 32
+    ∷ stated_reloc 11 (Some 1) 0
+    ∷ stated_reloc 257 (Some 1) 0
+    ∷ stated_reloc 266 (Some 1) 0
+    ∷ stated_reloc 16777216 (Some 1) 0
+    ∷ stated_reloc 4294967295 (Some 1) 0
     ∷ [])
     ∷ [] ∷ [] ∷ [] ∷ [] ∷ [])
 unfolding object_stated
@@ -197,18 +196,18 @@ relocation-types = refl
 
 -- 0 and 0xFFFFFFFF are none; no other need exist
 relocation-symbols : relocs_stated (λ o. table_section ".rela" 4 2 1 24 (each (λ y. rela_entry o y y 1) (0 ∷ 1 ∷ 2147483648 ∷ 4294967294 ∷ 4294967295 ∷ [])) ∷ [])
-    ≡ twice ((stated_reloc 0 none 64
-    ∷ stated_reloc 1 (some 1) 64
-    ∷ stated_reloc 2147483648 (some 2147483648) 64
-    ∷ stated_reloc 4294967294 (some 4294967294) 64
-    ∷ stated_reloc 4294967295 none 64
+    ≡ twice ((stated_reloc 0 None 64
+    ∷ stated_reloc 1 (Some 1) 64
+    ∷ stated_reloc 2147483648 (Some 2147483648) 64
+    ∷ stated_reloc 4294967294 (Some 4294967294) 64
+    ∷ stated_reloc 4294967295 None 64
     ∷ [])
     ∷ [] ∷ [] ∷ [] ∷ [] ∷ [])
 unfolding object_stated
 relocation-symbols = refl
 
 relocation-offset : relocs_stated (λ o. table_section ".rela" 4 2 1 24 (rela_entry o 9223372036854775817 1 1) ∷ [])
-    ≡ twice ((stated_reloc 9223372036854775817 (some 1) 64 ∷ []) ∷ [] ∷ [] ∷ [] ∷ [] ∷ [])
+    ≡ twice ((stated_reloc 9223372036854775817 (Some 1) 64 ∷ []) ∷ [] ∷ [] ∷ [] ∷ [] ∷ [])
 unfolding object_stated
 relocation-offset = refl
 
@@ -226,7 +225,7 @@ of-second-symbols = refl
 
 -- linked to 0, where there is no symbol table
 linked-to-0 : in_both (λ o. map (λ s. s.relocs) (object_stated (elf_file o (data_section "x" 1 0 [] ∷ table_section ".rel" 9 0 1 16 (rel_entry o 8 1 1) ∷ []))).sections)
-    ≡ twice ((stated_reloc 8 (some 1) 64 ∷ []) ∷ [] ∷ [] ∷ [])
+    ≡ twice ((stated_reloc 8 (Some 1) 64 ∷ []) ∷ [] ∷ [] ∷ [])
 unfolding object_stated
 linked-to-0 = refl
 
@@ -236,6 +235,6 @@ relocated-tables : relocs_stated (λ o. no_bits "b" 2
     ∷ table_section ".rel" 9 2 2 16 (rel_entry o 9 1 1)
     ∷ table_section ".rela" 4 2 3 24 (rela_entry o 10 1 1)
     ∷ [])
-    ≡ twice ([] ∷ (stated_reloc 9 (some 1) 64 ∷ []) ∷ (stated_reloc 10 (some 1) 64 ∷ []) ∷ (stated_reloc 8 (some 1) 64 ∷ []) ∷ [] ∷ [] ∷ [] ∷ [] ∷ [])
+    ≡ twice ([] ∷ (stated_reloc 9 (Some 1) 64 ∷ []) ∷ (stated_reloc 10 (Some 1) 64 ∷ []) ∷ (stated_reloc 8 (Some 1) 64 ∷ []) ∷ [] ∷ [] ∷ [] ∷ [] ∷ [])
 unfolding object_stated
 relocated-tables = refl

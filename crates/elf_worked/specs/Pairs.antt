@@ -1,7 +1,6 @@
 -- Demand 3 on a worked file and a worked deposit: they differ, meet every hypothesis and have one catalogue; and a call that patches and rewrites the file.
-use Rattle.std.specs.Prelude.{◌≡◌, refl, true, List, [], ◌∷◌, ◌++◌, ℕ, replicate}
+use Rattle.std.specs.Prelude.{◌≡◌, refl, true, List, [], ◌∷◌, ◌++◌, ℕ, replicate, Ok}
 use Rattle.model.specs.declared.Summary.{Summary}
-use Rattle.model.specs.declared.Answer.{Answer}
 use Rattle.model.specs.Bytes.{ascii}
 use Rattle.model.specs.Contents.{catalogue_of}
 use Rattle.model.specs.Patching.{finish}
@@ -79,7 +78,7 @@ unfolding called_file
 same-calls = refl
 
 -- the file's is accepted, so what is read back from it is `after` of the plain catalogue
-patched-file-call : (h : Summary) × ((load_elf_of pair_file pair_entries pair_bytes true pair_room).reply ≡ Answer.Accepted h)
+patched-file-call : (h : Summary) × ((load_elf_of pair_file pair_entries pair_bytes true pair_room).reply ≡ Ok h)
     × (read_back h (load_elf_of pair_file pair_entries pair_bytes true pair_room).lent
     ≡ after (elf_object_of pair_file) (patches_of pair_entries pair_bytes) true (catalogue_of (elf_object_of pair_file)))
 unfolding called_file all_bytes

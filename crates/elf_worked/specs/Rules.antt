@@ -1,7 +1,6 @@
 -- '26, a used table or a section reaches outside the file, a name its string table, a limit of document 01 is broken, a used table isn't whole entries, or a used
 -- link names no section of its kind', each at its limit and past it: what is said of the small file with changes, in the two byte orders, 0 where it is accepted.
-use Rattle.std.specs.Prelude.{◌≡◌, refl, true, false, List, [], ◌∷◌, ◌++◌, ℕ, replicate}
-use Rattle.std.proofs.Math.Option.{some}
+use Rattle.std.specs.Prelude.{◌≡◌, refl, true, false, List, [], ◌∷◌, ◌++◌, ℕ, replicate, Some}
 use Rattle.model.specs.Elf.{Header, File}
 use Rattle.model.specs.ElfRefusals.{header_ok, string_ok, limits_ok}
 use Rattle.elf_worked.specs.Write.{lsb, small_file, changed, byte_is, e_shoff, e_shnum, e_shstrndx, sh_name, sh_type, sh_flags, sh_offset, sh_size, sh_link, sh_info, sh_entsize, st_name}
@@ -13,7 +12,7 @@ sized_header k p z = record { index = 1; name = 0; kind = k; flags = 0; address 
 
 -- a file of so many headers, symbol bytes and tables
 abbrev limited_file : ℕ → ℕ → List Header → File
-limited_file n y ts = record { order = lsb; at = 64; count = n; names = 1; sections = []; symbols = some (sized_header 2 0 y); relocations = ts }
+limited_file n y ts = record { order = lsb; at = 64; count = n; names = 1; sections = []; symbols = Some (sized_header 2 0 y); relocations = ts }
 
 -- ---- the file's length, the section header table (E9 to E13)
 

@@ -1,6 +1,5 @@
 -- The definitions of model on files, unfolded as far as rows need them, and short names for what rows say.
-use Rattle.std.specs.Prelude.{Bool, false, List, [], ◌∷◌, ℕ, take}
-use Rattle.std.proofs.Math.Option.{Option, none, some}
+use Rattle.std.specs.Prelude.{Bool, false, List, [], ◌∷◌, ℕ, take, None, Option, Some}
 use Rattle.model.specs.declared.Endianness.{Endianness}
 use Rattle.model.specs.declared.SectionIndex.{SectionIndex}
 use Rattle.model.specs.declared.SymbolIndex.{SymbolIndex}
@@ -65,12 +64,12 @@ abbrev pub small_states : List Change → List Object
 small_states cs = in_both (λ o. object_stated (changed o cs (small_file o)))
 
 abbrev some_section : Option ℕ → Option SectionIndex
-some_section none = none
-some_section (some n) = some (record { 0 = n })
+some_section None = None
+some_section (Some n) = Some (record { 0 = n })
 
 abbrev some_symbol : Option ℕ → Option SymbolIndex
-some_symbol none = none
-some_symbol (some n) = some (record { 0 = n })
+some_symbol None = None
+some_symbol (Some n) = Some (record { 0 = n })
 
 -- offset, symbol, size
 abbrev pub stated_reloc : ℕ → Option ℕ → ℕ → Reloc

@@ -1,11 +1,8 @@
 -- After an accepted load, of a deposit or a file, the look-up finds the function of the catalogue that has the section and the address, or nothing if none has.
-use Rattle.std.specs.Prelude.{◌≡◌, refl, Bool, false, List, ℕ, ◌+◌, ◌-◌, ◌<◌, min, length, get_or, take, replicate}
+use Rattle.std.specs.Prelude.{◌≡◌, refl, Bool, false, List, ℕ, ◌+◌, ◌-◌, ◌<◌, min, length, get_or, take, replicate, None, Ok, Option, Some}
 use Rattle.std.proofs.Common.{sym, ◌∙◌, subst, arith, length-append, take_at}
 use Rattle.std.proofs.Math.Path.{ap}
-use Rattle.std.proofs.Math.Option.{Option, none, some}
 use Rattle.std.proofs.Math.ListN.{get_or-append}
-use Rattle.model.specs.declared.Answer.{Answer}
-use Rattle.model.specs.declared.Found.{Found}
 use Rattle.model.specs.declared.Function.{Function as Row}
 use Rattle.model.specs.declared.Refusal.{Refusal}
 use Rattle.model.specs.declared.Summary.{Summary}
@@ -33,8 +30,8 @@ unfolding load
 load_is o ps on c h = go (refusal_of o ps) h
   where
     go : (r : Option Refusal) → verdict r (finish o ps on (catalogue_of o)) ≡ accepted c → c ≡ finish o ps on (catalogue_of o)
-    go none q = accepted-is (sym q)
-    go (some r) q = let z : ◌≡◌ {A = ℕ} 0 1 = cc in let no : ⊥ = omega arith in absurd no
+    go None q = accepted-is (sym q)
+    go (Some r) q = let z : ◌≡◌ {A = ℕ} 0 1 = cc in let no : ⊥ = omega arith in absurd no
 
 functions-sorted : (o : Object) → Sorted function_key (catalogue_of o).functions
 unfolding catalogue_of
@@ -56,7 +53,7 @@ module _ (a c n : ℕ) (fs : List Function) (s : Sorted function_key fs) (k : Li
       ∙ ap (place_from k 0) (take_at (function_rows a c fs) (replicate (n - length (function_rows a c fs)) zero_row) (length (function_rows a c fs)) refl)
       ∙ place_is k 0 a c fs
 
-module _ (x : Input) (entries bytes : List ℕ) (on : Bool) (room : Room) (h : Summary) (e : (outcome_on x entries bytes on room).reply ≡ Answer.Accepted h) where
+module _ (x : Input) (entries bytes : List ℕ) (on : Bool) (room : Room) (h : Summary) (e : (outcome_on x entries bytes on room).reply ≡ Ok h) where
   abbrev functions : List Function
   functions = (catalogue_of (object_read x)).functions
 
@@ -90,15 +87,15 @@ module _ (x : Input) (entries bytes : List ℕ) (on : Bool) (room : Room) (h : S
       ∙ found-there (functions_at loaded) (code_start loaded) room.functions functions (functions-sorted (object_read x)) k
 
   -- no function of the catalogue has the key
-  pub finds-none : (k : List ℕ) → ((f : Function) → f ∈ functions → same (function_key f) k ≡ false) → found_in (outcome_on x entries bytes on room).lent.functions h.functions k ≡ Found.Nothing
+  pub finds-none : (k : List ℕ) → ((f : Function) → f ∈ functions → same (function_key f) k ≡ false) → found_in (outcome_on x entries bytes on room).lent.functions h.functions k ≡ None
   finds-none k other = finds k ∙ place_none k 0 functions other
 
   -- a function of the catalogue is found at a row of the table that has its section and address
   pub finds-row : (f : Function) → f ∈ functions
-      → (i : ℕ) × (found_in (outcome_on x entries bytes on room).lent.functions h.functions (function_key f) ≡ Found.At i) × (i < h.functions) × (row_key (get_or (outcome_on x entries bytes on room).lent.functions i zero_row) ≡ function_key f)
+      → (i : ℕ) × (found_in (outcome_on x entries bytes on room).lent.functions h.functions (function_key f) ≡ Some i) × (i < h.functions) × (row_key (get_or (outcome_on x entries bytes on room).lent.functions i zero_row) ≡ function_key f)
   finds-row f m =
       let (i, found, l, key) = place-some (function_key f) (functions_at loaded) (code_start loaded) 0 functions f m refl in
       let z : 0 + i ≡ i = omega arith in
       let below : i < length rows = rw length-rows l in
       let row : get_or (filled zero_row room.functions rows) i zero_row ≡ get_or rows i zero_row = get_or-append rows (replicate (room.functions - length rows) zero_row) zero_row i below in
-      (i, finds (function_key f) ∙ found ∙ ap Found.At z, subst (λ (m : ℕ). i < m) (sym count-is) l, ap (λ (t : List Row). row_key (get_or t i zero_row)) table_is ∙ ap row_key row ∙ key)
+      (i, finds (function_key f) ∙ found ∙ ap Some z, subst (λ (m : ℕ). i < m) (sym count-is) l, ap (λ (t : List Row). row_key (get_or t i zero_row)) table_is ∙ ap row_key row ∙ key)

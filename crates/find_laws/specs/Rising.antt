@@ -1,12 +1,11 @@
 -- The rows of functions that are ordered by their keys rise by theirs.
-use Rattle.std.specs.Prelude.{◌≡◌, Bool, cond, ℕ, zero, suc, ◌+◌, ◌<◌, get_or}
+use Rattle.std.specs.Prelude.{◌≡◌, Bool, cond, ℕ, zero, suc, ◌+◌, ◌<◌, get_or, None, Option, Some}
 use Rattle.std.proofs.Math.Path.{refl, sym, ap}
 use Rattle.std.proofs.Common.{◌∙◌, inl, inr, add-zero, suc-add, add-suc, not-suc-le-zero, le_of_suc-le-suc}
 use Rattle.std.proofs.Math.Bool.{true, false}
 use mathlib.Core.List.{List, [], ◌∷◌, ◌++◌}
 use native.Mathlib.Omega.{arith}
 use Rattle.std.proofs.Math.ListN.{length, get_or-append}
-use Rattle.model.specs.declared.Found.{Found}
 use Rattle.model.specs.declared.Function.{Function as Row}
 use Rattle.model.specs.Bytes.{same, before, ◌∈◌}
 use Rattle.model.specs.Catalogue.{Function, function_key}
@@ -68,9 +67,9 @@ front-rises a c fs more s i j l h =
 
 module _ (k : List ℕ) where
   -- the place of the first function that has the key; the list's first stands at place i
-  unfoldable pub function_place : ℕ → List Function → Found
-  function_place i [] = Found.Nothing
-  function_place i (f ∷ fs) = cond (same (function_key f) k) (Found.At i) (function_place (suc i) fs)
+  unfoldable pub function_place : ℕ → List Function → Option ℕ
+  function_place i [] = None
+  function_place i (f ∷ fs) = cond (same (function_key f) k) (Some i) (function_place (suc i) fs)
 
   -- that of its row
   pub place_is : (i a c : ℕ) (fs : List Function) → place_from k i (function_rows a c fs) ≡ function_place i fs
@@ -78,14 +77,14 @@ module _ (k : List ℕ) where
   place_is i a c [] = refl
   place_is i a c (f ∷ fs) = rw (row-key a c f, place_is (suc i) (a + length (function_name f)) (c + length (function_code f)) fs)
 
-  pub place_none : (i : ℕ) (fs : List Function) → ((f : Function) → f ∈ fs → same (function_key f) k ≡ false) → function_place i fs ≡ Found.Nothing
+  pub place_none : (i : ℕ) (fs : List Function) → ((f : Function) → f ∈ fs → same (function_key f) k ≡ false) → function_place i fs ≡ None
   unfolding function_place
   place_none i [] other = refl
   place_none i (f ∷ fs) other = rw (other f (inl refl)) (place_none (suc i) fs (λ g m. other g (inr m)))
 
   -- a place m behind i, at a row that has the key
-  abbrev Placed : ℕ → ℕ → ℕ → List Function → Found → Type 0
-  Placed a c i fs p = (m : ℕ) × (p ≡ Found.At (i + m)) × (m < length fs) × (row_key (get_or (function_rows a c fs) m zero_row) ≡ k)
+  abbrev Placed : ℕ → ℕ → ℕ → List Function → Option ℕ → Type 0
+  Placed a c i fs p = (m : ℕ) × (p ≡ Some (i + m)) × (m < length fs) × (row_key (get_or (function_rows a c fs) m zero_row) ≡ k)
 
   -- a function that has the key is found
   pub place-some : (a c i : ℕ) (fs : List Function) (f : Function) → f ∈ fs → function_key f ≡ k → Placed a c i fs (function_place i fs)
@@ -94,7 +93,7 @@ module _ (k : List ℕ) where
   place-some a c i (g ∷ fs) f m e = go (same (function_key g) k) refl m (λ n. place-some (a + length (function_name g)) (c + length (function_code g)) (suc i) fs f n e)
     where
       go : (b : Bool) → same (function_key g) k ≡ b → f ∈ (g ∷ fs) → (f ∈ fs → Placed (a + length (function_name g)) (c + length (function_code g)) (suc i) fs (function_place (suc i) fs))
-          → Placed a c i (g ∷ fs) (cond b (Found.At i) (function_place (suc i) fs))
-      go true q n r = (0, ap Found.At (sym (add-zero i)), omega arith, row-key a c g ∙ same-is (function_key g) k q)
+          → Placed a c i (g ∷ fs) (cond b (Some i) (function_place (suc i) fs))
+      go true q n r = (0, ap Some (sym (add-zero i)), omega arith, row-key a c g ∙ same-is (function_key g) k q)
       go false q (inl p) r = true-not-false (sym (same_refl k) ∙ ap (λ (l : List ℕ). same l k) (sym e ∙ ap function_key p) ∙ q)
-      go false q (inr n) r = let (j, found, l, key) = r n in (suc j, found ∙ ap Found.At (suc-add i j ∙ sym (add-suc i j)), omega arith, key)
+      go false q (inr n) r = let (j, found, l, key) = r n in (suc j, found ∙ ap Some (suc-add i j ∙ sym (add-suc i j)), omega arith, key)

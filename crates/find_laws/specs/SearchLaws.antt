@@ -1,5 +1,5 @@
 -- In a table whose rows rise by their keys, the search by halves finds the row that has the key.
-use Rattle.std.specs.Prelude.{◌≡◌, Bool, length, get_or, take}
+use Rattle.std.specs.Prelude.{◌≡◌, Bool, length, get_or, take, None, Option, Some}
 use Rattle.std.proofs.Math.Path.{refl, sym, ap}
 use Rattle.std.proofs.Common.{◌∙◌, ⊎_elim, suc-add, add-suc, not-suc-le-zero, le_of_suc-le-suc, eq-or-lt_of_le, arith, ltb-true, ltb-false, get_or-take, length-take-le}
 use Rattle.std.proofs.Math.Bool.{true, false, cond}
@@ -7,7 +7,6 @@ use mathlib.Core.List.{List, [], ◌∷◌}
 use Prim.Native.Nat.{ℕ, zero, suc, ◌+◌, ◌-◌, ◌<◌, ◌≤◌, min}
 use Rattle.std.proofs.Math.Nat.{add-zero}
 use Rattle.std.proofs.Math.Dec.{ltb}
-use Rattle.model.specs.declared.Found.{Found}
 use Rattle.model.specs.declared.Function.{Function}
 use Rattle.model.specs.Bytes.{same, before}
 use Rattle.model.specs.Lent.{zero_row}
@@ -16,20 +15,20 @@ use Rattle.orders.specs.Keys.{same-is, before-trans, before-only, after_is}
 
 module _ (k : List ℕ) where
   -- the place of the first row that has the key; the list's first row stands at place i
-  unfoldable pub place_from : ℕ → List Function → Found
-  place_from i [] = Found.Nothing
-  place_from i (f ∷ fs) = cond (same (row_key f) k) (Found.At i) (place_from (suc i) fs)
+  unfoldable pub place_from : ℕ → List Function → Option ℕ
+  place_from i [] = None
+  place_from i (f ∷ fs) = cond (same (row_key f) k) (Some i) (place_from (suc i) fs)
 
   place_at : (i m : ℕ) (fs : List Function) → m < length fs → same (row_key (get_or fs m zero_row)) k ≡ true
-      → ((n : ℕ) → n < m → same (row_key (get_or fs n zero_row)) k ≡ false) → place_from i fs ≡ Found.At (i + m)
+      → ((n : ℕ) → n < m → same (row_key (get_or fs n zero_row)) k ≡ false) → place_from i fs ≡ Some (i + m)
   unfolding place_from
   place_at i m [] l e none = absurd (not-suc-le-zero l)
   place_at i zero (f ∷ fs) l e none = rw (e, add-zero i)
   place_at i (suc m) (f ∷ fs) l e none =
       let first : same (row_key f) k ≡ false = none 0 (omega arith) in
-      rw first (place_at (suc i) m fs (le_of_suc-le-suc l) e (λ n h. none (suc n) (omega arith)) ∙ ap Found.At (suc-add i m ∙ sym (add-suc i m)))
+      rw first (place_at (suc i) m fs (le_of_suc-le-suc l) e (λ n h. none (suc n) (omega arith)) ∙ ap Some (suc-add i m ∙ sym (add-suc i m)))
 
-  place_none : (i : ℕ) (fs : List Function) → ((n : ℕ) → n < length fs → same (row_key (get_or fs n zero_row)) k ≡ false) → place_from i fs ≡ Found.Nothing
+  place_none : (i : ℕ) (fs : List Function) → ((n : ℕ) → n < length fs → same (row_key (get_or fs n zero_row)) k ≡ false) → place_from i fs ≡ None
   unfolding place_from
   place_none i [] none = refl
   place_none i (f ∷ fs) none =
@@ -44,7 +43,7 @@ module _ (k : List ℕ) (fs : List Function) (h : ℕ) (within : h ≤ length fs
   abbrev key : ℕ → List ℕ
   key i = row_key (get_or fs i zero_row)
 
-  abbrev place : Found
+  abbrev place : Option ℕ
   place = place_from k 0 (take h fs)
 
   -- the keys of the rows below low are before the key, and those from high on are after it
@@ -60,7 +59,7 @@ module _ (k : List ℕ) (fs : List Function) (h : ℕ) (within : h ≤ length fs
   long : length (take h fs) ≡ h
   long = length-take-le h fs within
 
-  nothing_is : (low high : ℕ) → high ≤ low → Below low → Above high → Found.Nothing ≡ place
+  nothing_is : (low high : ℕ) → high ≤ low → Below low → Above high → None ≡ place
   nothing_is low high l below above = sym (place_none k 0 (take h fs) (λ i t. let u : i < h = rw long at t in row_same i false u (other i u)))
     where
       other : (i : ℕ) → i < h → same (key i) k ≡ false
@@ -70,11 +69,11 @@ module _ (k : List ℕ) (fs : List Function) (h : ℕ) (within : h ≤ length fs
           go true e = (before-only (key i) k (below i (ltb-true i low e))).0
           go false e = let g : low ≤ i = ltb-false i low e in (before-only k (key i) (above i (omega arith) u)).1
 
-  at-is : (m : ℕ) → m < h → same (key m) k ≡ true → Found.At m ≡ place
+  at-is : (m : ℕ) → m < h → same (key m) k ≡ true → Some m ≡ place
   at-is m l e =
       let t : m < length (take h fs) = rw long l in
       let z : 0 + m ≡ m = omega arith in
-      sym (place_at k 0 m (take h fs) t (row_same m true l e) (λ n u. row_same n false (omega arith) (earlier n u)) ∙ ap Found.At z)
+      sym (place_at k 0 m (take h fs) t (row_same m true l e) (λ n u. row_same n false (omega arith) (earlier n u)) ∙ ap Some z)
     where
       earlier : (n : ℕ) → n < m → same (key n) k ≡ false
       earlier n u = rw (same-is (key m) k e) at (before-only (key n) (key m) (rise n m u l)).0
@@ -88,7 +87,7 @@ module _ (k : List ℕ) (fs : List Function) (h : ℕ) (within : h ≤ length fs
     abbrev Finds : Type 0
     Finds = (lo hi : ℕ) → hi - lo ≤ n → hi ≤ h → Below lo → Above hi → searched fs k n lo hi ≡ place
 
-    halved : high - low ≤ suc n → Finds → cond (same (key m) k) (Found.At m) (cond (before (key m) k) (searched fs k n (m + 1) high) (searched fs k n low m)) ≡ place
+    halved : high - low ≤ suc n → Finds → cond (same (key m) k) (Some m) (cond (before (key m) k) (searched fs k n (m + 1) high) (searched fs k n low m)) ≡ place
     halved steps finds = go (same (key m) k) (before (key m) k) refl refl
       where
         inside : m < h
@@ -102,7 +101,7 @@ module _ (k : List ℕ) (fs : List Function) (h : ℕ) (within : h ≤ length fs
         lower : before k (key m) ≡ true → Above m
         lower e i t u = ⊎_elim (λ q. rw (← q) e) (λ lt. before-trans k (key m) (key i) e (rise m i lt u)) (eq-or-lt_of_le t)
 
-        go : (s t : Bool) → same (key m) k ≡ s → before (key m) k ≡ t → cond s (Found.At m) (cond t (searched fs k n (m + 1) high) (searched fs k n low m)) ≡ place
+        go : (s t : Bool) → same (key m) k ≡ s → before (key m) k ≡ t → cond s (Some m) (cond t (searched fs k n (m + 1) high) (searched fs k n low m)) ≡ place
         go true t p q = at-is m inside p
         go false true p q = finds (m + 1) high (omega arith) top (upper q) above
         go false false p q = finds low m (omega arith) (omega arith) below (lower (after_is (key m) k q p))
@@ -113,7 +112,7 @@ module _ (k : List ℕ) (fs : List Function) (h : ℕ) (within : h ≤ length fs
   finds-place (suc n) low high steps top below above =
       by-test (ltb low high) refl (λ l. halved n low high l top below above steps (finds-place n)) (λ g. nothing_is low high g below above)
     where
-      by-test : {x : Found} (b : Bool) → ltb low high ≡ b → (low < high → x ≡ place) → (high ≤ low → Found.Nothing ≡ place) → cond b x Found.Nothing ≡ place
+      by-test : {x : (Option ℕ)} (b : Bool) → ltb low high ≡ b → (low < high → x ≡ place) → (high ≤ low → None ≡ place) → cond b x None ≡ place
       by-test true e f g = f (ltb-true low high e)
       by-test false e f g = g (ltb-false low high e)
 

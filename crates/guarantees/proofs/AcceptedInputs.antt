@@ -1,7 +1,6 @@
 -- What holds of an input that is accepted, a deposit or a file: its symbols' indexes are at least 1, and its catalogue is `after` of the plain one.
-use Rattle.std.specs.Prelude.{◌≡◌, Bool, false, List, [], ◌<◌}
+use Rattle.std.specs.Prelude.{◌≡◌, Bool, false, List, [], ◌<◌, None}
 use Rattle.std.proofs.Common.{◌∙◌}
-use Rattle.std.proofs.Math.Option.{none}
 use Rattle.model.specs.Bytes.{◌∈◌}
 use Rattle.model.specs.Object.{Symbol, Patch}
 use Rattle.model.specs.Catalogue.{Catalogue}
@@ -13,11 +12,11 @@ use Rattle.guarantees.specs.AcceptedFiles.{elf-symbols-from-1}
 use Rattle.guarantees.proofs.SecondHalf.{second-half}
 use Rattle.guarantees.specs.AcceptedInputs.{input-accepted, input_refusal, verdict-is}
 
-pub input-symbols : (x : Input) (y : Symbol) → input_refusal x ≡ none → y ∈ (object_read x).symbols → 0 < y.index.0
+pub input-symbols : (x : Input) (y : Symbol) → input_refusal x ≡ None → y ∈ (object_read x).symbols → 0 < y.index.0
 input-symbols (Input.deposit d) y e m = symbols-from-1 d y (deposit-passed d e) m
 input-symbols (Input.file f) y e m = elf-symbols-from-1 f y m
 
-load_again : (x : Input) (c : Catalogue) → input_refusal x ≡ none → load (object_read x) [] false ≡ accepted c → verdict_on x [] false ≡ accepted c
+load_again : (x : Input) (c : Catalogue) → input_refusal x ≡ None → load (object_read x) [] false ≡ accepted c → verdict_on x [] false ≡ accepted c
 load_again x c e h = verdict-is x [] false ∙ rw e h
 
 -- what is accepted with a patch list and rewriting on or off is accepted without either, and its catalogue is that one but for what `after` says

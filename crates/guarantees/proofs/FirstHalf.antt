@@ -1,8 +1,7 @@
 -- Demand 3, first half, on objects: what the catalogue lists of a section stands in the other object's section too.
-use Rattle.std.specs.Prelude.{◌≡◌, refl, ◌⊎◌, Bool, true, false, cond, ◌&&◌, List, [], ◌∷◌, map, ℕ, ◌+◌, ◌<◌, ◌≤◌, ltb, drop, replicate}
+use Rattle.std.specs.Prelude.{◌≡◌, refl, ◌⊎◌, Bool, true, false, cond, ◌&&◌, List, [], ◌∷◌, map, ℕ, ◌+◌, ◌<◌, ◌≤◌, ltb, drop, replicate, None, Option, Some}
 use Rattle.std.proofs.Math.Path.{sym, ap, subst}
 use Rattle.std.proofs.Common.{◌∙◌, inl, inr, arith, length-drop, length-take-le, get_or-take, get_or-drop}
-use Rattle.std.proofs.Math.Option.{Option, none, some}
 use borrow.Author.Tests.{eqb-true}
 use Rattle.std.proofs.Math.Dec.{eqb}
 use Rattle.std.proofs.Math.ListN.{length, get_or}
@@ -109,7 +108,7 @@ legacy-name : (s : Section) (y : Symbol) (w : Map) → w ≡ legacy_map s y → 
 unfolding legacy_map
 legacy-name s y w e = ap (λ m. m.name) e
 
-legacy-symbol : (s : Section) (y : Symbol) (w : Map) → w ≡ legacy_map s y → w.symbol ≡ some y.index
+legacy-symbol : (s : Section) (y : Symbol) (w : Map) → w ≡ legacy_map s y → w.symbol ≡ Some y.index
 unfolding legacy_map
 legacy-symbol s y w e = ap (λ m. m.symbol) e
 
@@ -117,7 +116,7 @@ data-name : (k : Kind) (s : Section) → (data_map k s).name ≡ s.name
 unfolding data_map
 data-name k s = refl
 
-data-symbol : (k : Kind) (s : Section) → (data_map k s).symbol ≡ none
+data-symbol : (k : Kind) (s : Section) → (data_map k s).symbol ≡ None
 unfolding data_map
 data-symbol k s = refl
 
@@ -275,9 +274,9 @@ plain : (o : Object) (c : Catalogue) → load o [] false ≡ accepted c → Acce
 unfolding load finish patched
 plain o c h = go (refusal_of o []) refl h
   where
-    go : (r : Option Refusal) → refusal_of o [] ≡ r → verdict r (catalogue_of o) ≡ accepted c → (refusal_of o [] ≡ none) × (catalogue_of o ≡ c)
-    go none e q = (e, accepted-is q)
-    go (some r) e q = let z : ◌≡◌ {A = ℕ} 0 1 = cc in let no : ⊥ = omega arith in absurd no
+    go : (r : Option Refusal) → refusal_of o [] ≡ r → verdict r (catalogue_of o) ≡ accepted c → (refusal_of o [] ≡ None) × (catalogue_of o ≡ c)
+    go None e q = (e, accepted-is q)
+    go (Some r) e q = let z : ◌≡◌ {A = ℕ} 0 1 = cc in let no : ⊥ = omega arith in absurd no
 
 one_side : (a b : Object) (c : Catalogue) → Stated a → Stated b → Accepted a → Accepted b → catalogue_of a ≡ c → catalogue_of b ≡ c → Fair a → FirstHalf a b c
 one_side a b c wa wb ha hb ea eb fa =

@@ -1,7 +1,6 @@
 -- What a call lends back: its catalogue can be read back from it, so equal answers and contents mean equal catalogues; and no lent length changes.
-use Rattle.std.specs.Prelude.{◌≡◌, refl, ◌⊎◌, Bool, true, false, cond, ◌&&◌, List, [], ◌∷◌, map, ℕ, zero, suc, ◌+◌, ◌-◌, ◌/◌, ◌<◌, ◌≤◌, ltb, eqb, leb, ℤ, pos, negsuc, length, take, drop, replicate}
+use Rattle.std.specs.Prelude.{◌≡◌, refl, ◌⊎◌, Bool, true, false, cond, ◌&&◌, List, [], ◌∷◌, map, ℕ, zero, suc, ◌+◌, ◌-◌, ◌/◌, ◌<◌, ◌≤◌, ltb, eqb, leb, ℤ, pos, negsuc, length, take, drop, replicate, None, Option, Some}
 use Rattle.std.proofs.Common.{sym, ap, ◌∙◌, inl, inr, arith, ltb-true, ltb-false, leb-true, length-append}
-use Rattle.std.proofs.Math.Option.{Option, none, some}
 use Rattle.std.proofs.lemmas.List.{length-replicate}
 use Rattle.model.specs.declared.EbpfSectionKind.{EbpfSectionKind as Kind}
 use Rattle.model.specs.declared.BpfInsn.{BpfInsn}
@@ -108,9 +107,9 @@ function-made o s f m = go (is_kind Kind.Program (kind_of s)) (is_kind Kind.Text
   where
     here : (p : Stop) (y : Option Symbol) → f ∈ maybe y [] (λ z. function_at s (s.address + p.at) p.at z ∷ [])
         → (a : ℕ) × (at : ℕ) × (y : Symbol) × (f ≡ function_at s a at y)
-    here p none n = absurd n
-    here p (some y) (inl q) = (s.address + p.at, p.at, y, q)
-    here p (some y) (inr n) = absurd n
+    here p None n = absurd n
+    here p (Some y) (inl q) = (s.address + p.at, p.at, y, q)
+    here p (Some y) (inr n) = absurd n
 
     go : (b c : Bool) → f ∈ cond b (map (program_function s) (program_symbols o s)) (cond c (each (text_function s) (walk_of o s)) [])
         → (a : ℕ) × (at : ℕ) × (y : Symbol) × (f ≡ function_at s a at y)

@@ -1,7 +1,6 @@
 -- Demand 3 on worked deposits: two that differ and meet every hypothesis, and calls that accept one of them, patched and rewritten too, or refuse it.
-use Rattle.std.specs.Prelude.{◌≡◌, refl, Bool, true, false, List, [], ◌∷◌, ◌++◌, ℕ, ◌+◌, ◌-◌, length, replicate}
+use Rattle.std.specs.Prelude.{◌≡◌, refl, Bool, true, false, List, [], ◌∷◌, ◌++◌, ℕ, ◌+◌, ◌-◌, length, replicate, Err, Ok}
 use Rattle.model.specs.declared.Summary.{Summary}
-use Rattle.model.specs.declared.Answer.{Answer}
 use Rattle.model.specs.Bytes.{ascii, little_bytes, records}
 use Rattle.model.specs.Contents.{catalogue_of}
 use Rattle.model.specs.Refusals.{no_section, no_symbol}
@@ -82,7 +81,7 @@ abbrev lent_bytes : List ℕ
 lent_bytes = ascii "rate" ++ (5 ∷ 6 ∷ 7 ∷ 8 ∷ (ascii "other" ++ (50 ∷ 60 ∷ 70 ∷ 80 ∷ [])))
 
 -- a call that patches and rewrites is accepted, so what is read back from it is `after` of the plain catalogue
-patched-call : (h : Summary) × ((load_of (deposit 1) entries lent_bytes true (room 63)).reply ≡ Answer.Accepted h)
+patched-call : (h : Summary) × ((load_of (deposit 1) entries lent_bytes true (room 63)).reply ≡ Ok h)
     × (read_back h (load_of (deposit 1) entries lent_bytes true (room 63)).lent
     ≡ after (object_of (deposit 1)) (patches_of entries lent_bytes) true (catalogue_of (object_of (deposit 1))))
 unfolding run_call deposit all_bytes
@@ -100,6 +99,6 @@ no_room : load_of (deposit 1) [] [] false (room 62) ≡ refused_outcome (room 62
 unfolding run_call deposit
 no_room = refl
 
-no_block : (load_of (0 ∷ []) [] [] false (room 63)).reply ≡ Answer.Refused (record { number = 1; section = no_section; symbol = no_symbol; entry = 0 })
+no_block : (load_of (0 ∷ []) [] [] false (room 63)).reply ≡ Err (record { number = 1; section = no_section; symbol = no_symbol; entry = 0 })
 unfolding run_call
 no_block = refl

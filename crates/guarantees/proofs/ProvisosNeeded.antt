@@ -1,7 +1,6 @@
 -- Demand 3 on worked objects: its hypotheses are met, patches and rewriting change what it says, and without either proviso its first half fails.
-use Rattle.std.specs.Prelude.{◌≡◌, refl, Bool, true, false, List, [], ◌∷◌, map, ℕ, ℤ, pos, get_or}
+use Rattle.std.specs.Prelude.{◌≡◌, refl, Bool, true, false, List, [], ◌∷◌, map, ℕ, ℤ, pos, get_or, Some}
 use Rattle.std.proofs.Common.{sym, ap, ◌∙◌, inl, inr, arith}
-use Rattle.std.proofs.Math.Option.{some}
 use Rattle.lists.specs.Tab.{tab}
 use Rattle.model.specs.declared.Endianness.{Endianness}
 use Rattle.model.specs.declared.SymbolKind.{SymbolKind}
@@ -30,7 +29,7 @@ abbrev pub section : ℕ → Bool → List ℕ → ℕ → List ℕ → Section
 section i text name size d = record { index = record { 0 = i }; text = text; name = name; address = 0; size = size; bytes = d; relocs = [] }
 
 abbrev pub symbol : ℕ → ℕ → List ℕ → ℕ → SymbolKind → Symbol
-symbol i s name size k = record { index = record { 0 = i }; section = some (record { 0 = s }); name = name; address = 0; size = size; kind = k; definition = true }
+symbol i s name size k = record { index = record { 0 = i }; section = Some (record { 0 = s }); name = name; address = 0; size = size; kind = k; definition = true }
 
 abbrev pub object : List Section → List Symbol → Object
 object ss ys = record { order = Endianness.Little; sections = ss; symbols = ys }

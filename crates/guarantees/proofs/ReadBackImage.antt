@@ -1,9 +1,8 @@
 -- The catalogue is read back from its image, whatever stands behind it: each row gives its entry again, and each piece of bytes stands where its row says.
-use Rattle.std.specs.Prelude.{◌≡◌, Bool, true, false, cond, ltb, ℤ, pos, negsuc, get_or, replicate}
+use Rattle.std.specs.Prelude.{◌≡◌, Bool, true, false, cond, ltb, ℤ, pos, negsuc, get_or, replicate, None, Option, Some}
 use Rattle.std.proofs.Math.Path.{refl, ap}
 use Rattle.std.proofs.Common.{sym, ◌∙◌, inl, inr, zero-add, suc-mul, arith, ltb-true, ltb-false, length-append, take-take, drop-drop, take-add}
 use mathlib.Core.List.{List, [], ◌∷◌, ◌++◌, map, append_assoc}
-use Rattle.std.proofs.Math.Option.{Option, none, some}
 use Prim.Native.Nat.{ℕ, zero, suc, ◌+◌, ◌-◌, ◌*◌, ◌/◌, ◌%◌, ◌<◌, ◌≤◌}
 use Rattle.std.proofs.Math.ListN.{length, take, drop}
 use Rattle.std.proofs.Math.Seq.{take-append_seam, drop-append_seam, take_at, drop_at}
@@ -12,7 +11,7 @@ use Rattle.lists.specs.Tab.{tab, is-tab}
 use Rattle.model.specs.declared.SymbolIndex.{SymbolIndex}
 use Rattle.model.specs.declared.XdpAttachType.TheVariants.{Interface, CpuMap, DevMap}
 use Rattle.model.specs.declared.SkSkbKind.TheVariants.{StreamParser, StreamVerdict}
-use Rattle.model.specs.declared.CgroupSkbAttachType.TheVariants.{Unspecified, Ingress, Egress}
+use Rattle.model.specs.declared.CgroupSkbAttachType.TheVariants.{Ingress, Egress}
 use Rattle.model.specs.declared.CgroupSockAddrAttachType.TheVariants.{
   Bind4,
   Bind6,
@@ -153,9 +152,9 @@ variant_back (SkSkbStream StreamParser) = refl
 variant_back (SkSkbStream StreamVerdict) = refl
 variant_back SockOps = refl
 variant_back SchedClassifier = refl
-variant_back (CgroupSkb Unspecified) = refl
-variant_back (CgroupSkb Ingress) = refl
-variant_back (CgroupSkb Egress) = refl
+variant_back (CgroupSkb None) = refl
+variant_back (CgroupSkb (Some Ingress)) = refl
+variant_back (CgroupSkb (Some Egress)) = refl
 variant_back (CgroupSockAddr Bind4) = refl
 variant_back (CgroupSockAddr Bind6) = refl
 variant_back (CgroupSockAddr Connect4) = refl
@@ -196,10 +195,10 @@ variant_back (Iter true) = refl
 variant_back (Iter false) = refl
 
 symbol-back : (y : Option SymbolIndex) → Numbered y → symbol_read_back (symbol_number y) ≡ y
-symbol-back none h = refl
-symbol-back (some y) h = go y.0 h
+symbol-back None h = refl
+symbol-back (Some y) h = go y.0 h
   where
-    go : (n : ℕ) → 0 < n → symbol_read_back n ≡ some (record { 0 = n })
+    go : (n : ℕ) → 0 < n → symbol_read_back n ≡ Some (record { 0 = n })
     go zero h = let no : ⊥ = omega arith in absurd no
     go (suc n) h = refl
 

@@ -1,17 +1,17 @@
 -- What a refusal of an object, a patch list, a deposit or a file says: its number, and the places that document 01 says this number names.
-use Rattle.std.specs.Prelude.{◌≡◌, Bool, cond, ◌&&◌, ◌||◌, not, ℕ, suc, ◌+◌, ◌≤◌, eqb, leb, length}
+use Rattle.model.specs.declared.VersionError.{VersionError}
+use Rattle.model.specs.declared.ProgramSectionError.{ProgramSectionError}
+use Rattle.model.specs.declared.ProgramSection.{ProgramSection}
+use Rattle.model.specs.declared.LicenseError.{LicenseError}
+use Rattle.std.specs.Prelude.{◌≡◌, Bool, cond, ◌&&◌, ◌||◌, not, ℕ, suc, ◌+◌, ◌≤◌, eqb, leb, length, Err, None, Ok, Option, Result, Some}
 use Rattle.std.proofs.Math.Path.{refl}
 use Rattle.std.proofs.Common.{sym, inl, inr, arith, leb-true}
 use Rattle.std.proofs.Math.Bool.{true, false}
 use Rattle.std.specs.Bool.{beq}
 use mathlib.Core.List.{List, [], ◌∷◌}
-use Rattle.std.proofs.Math.Option.{Option, none, some}
 use Rattle.std.proofs.Math.Dec.{ltb}
 use Rattle.model.specs.declared.Endianness.{Endianness}
 use Rattle.model.specs.declared.EbpfSectionKind.{EbpfSectionKind as Kind}
-use Rattle.model.specs.declared.ParsedLicense.{ParsedLicense}
-use Rattle.model.specs.declared.ParsedVersion.{ParsedVersion}
-use Rattle.model.specs.declared.ParsedProgramSection.{ParsedProgramSection}
 use Rattle.model.specs.declared.Refusal.{Refusal}
 use Rattle.model.specs.Bytes.{ascii, same, or_else, first_in, find, maybe, is_some, ◌∈◌}
 use Rattle.model.specs.Object.{Section, Symbol, Object, Patch}
@@ -50,27 +50,27 @@ abbrev pub of_object : ℕ → Bool
 of_object n = leb 4 n && leb n 23
 
 module _ (P : ℕ → Type 0) (within : (n : ℕ) → of_object n ≡ true → P n) (o : Object) (ps : List Patch) where
-  none-says : Says P o ps none
+  none-says : Says P o ps None
   none-says = record { said = tt }
 
   or-says : {a b : Option Refusal} → Says P o ps a → Says P o ps b → Says P o ps (or_else a b)
   or-says {a} {b} h k = go a h
     where
       go : (a : Option Refusal) → Says P o ps a → Says P o ps (or_else a b)
-      go none h = k
-      go (some r) h = h
+      go None h = k
+      go (Some r) h = h
 
   first_says : {A : Type 0} (f : A → Option Refusal) (xs : List A) → ((x : A) → x ∈ xs → Says P o ps (f x)) → Says P o ps (first_in f xs)
   unfolding first_in
   first_says f [] h = none-says
   first_says f (x ∷ xs) h = or-says (h x (inl refl)) (first_says f xs (λ y m. h y (inr m)))
 
-  maybe-says : {A : Type 0} (m : Option A) (a : Option Refusal) (f : A → Option Refusal) → Says P o ps a → ((x : A) → m ≡ some x → Says P o ps (f x)) → Says P o ps (maybe m a f)
-  maybe-says none a f h k = h
-  maybe-says (some x) a f h k = k x refl
+  maybe-says : {A : Type 0} (m : Option A) (a : Option Refusal) (f : A → Option Refusal) → Says P o ps a → ((x : A) → m ≡ Some x → Says P o ps (f x)) → Says P o ps (maybe m a f)
+  maybe-says None a f h k = h
+  maybe-says (Some x) a f h k = k x refl
 
   places : (r : Refusal) (i y e : Bool) → P r.number → fitting i y e r.number ≡ true → SectionPlace o r.section i → SymbolPlace o r.symbol y
-      → EntryPlace ps r.entry e → Says P o ps (some r)
+      → EntryPlace ps r.entry e → Says P o ps (Some r)
   places r i y e a t p q w =
       let n = r.number in
       let (f, g) = both_true (beq (names_section n) i) (beq (names_symbol n) y && beq (names_entry n) e) t in
@@ -93,7 +93,7 @@ module _ (P : ℕ → Type 0) (within : (n : ℕ) → of_object n ≡ true → P
 
   -- 4 to 23
   of-object : (r : Refusal) (i y e : Bool) → (of_object r.number && fitting i y e r.number) ≡ true → SectionPlace o r.section i → SymbolPlace o r.symbol y
-      → EntryPlace ps r.entry e → Says P o ps (some r)
+      → EntryPlace ps r.entry e → Says P o ps (Some r)
   of-object r i y e t p q w = let (a, b) = both_true (of_object r.number) (fitting i y e r.number) t in places r i y e (within r.number a) b p q w
 
   of-section : (n : ℕ) (s : Section) (b : Bool) → s ∈ o.sections → (of_object n && fitting true false false n) ≡ true → Says P o ps (of_section n s b)
@@ -119,18 +119,18 @@ module _ (P : ℕ → Type 0) (within : (n : ℕ) → of_object n ≡ true → P
   unfolding licence_refusal
   licence-says s m = or-says (reloc-says s m) (go (parse_license s.bytes))
     where
-      go : (p : ParsedLicense) → Says P o ps (of_number s (license_number p))
-      go (ParsedLicense.License n) = none-says
-      go ParsedLicense.InvalidLicense = of-section 5 s true m refl
-      go ParsedLicense.MissingLicenseNullTerminator = of-section 6 s true m refl
+      go : (p : Result ℕ LicenseError) → Says P o ps (of_number s (license_number p))
+      go (Ok n) = none-says
+      go (Err LicenseError.InvalidLicense) = of-section 5 s true m refl
+      go (Err LicenseError.MissingLicenseNullTerminator) = of-section 6 s true m refl
 
   version-says : (e : Endianness) (s : Section) → s ∈ o.sections → Says P o ps (version_refusal e s)
   unfolding version_refusal
   version-says e s m = or-says (reloc-says s m) (go (parse_version e s.bytes))
     where
-      go : (p : ParsedVersion) → Says P o ps (of_number s (version_number p))
-      go (ParsedVersion.Version v) = none-says
-      go ParsedVersion.InvalidKernelVersion = of-section 7 s true m refl
+      go : (p : Result (Option ℕ) VersionError) → Says P o ps (of_number s (version_number p))
+      go (Ok v) = none-says
+      go (Err VersionError.InvalidKernelVersion) = of-section 7 s true m refl
 
   symbol-∈ : (s : Section) (y : Symbol) → y ∈ symbols_of o s → y ∈ o.symbols
   unfolding symbols_of
@@ -150,9 +150,9 @@ module _ (P : ℕ → Type 0) (within : (n : ℕ) → of_object n ≡ true → P
       (first_says (program_symbol_refusal s) (program_symbols o s)
       (λ y k. program-symbol-says s y m (symbol-∈ s y (keep-∈ is_program y (symbols_of o s) k).0))))
     where
-      go : (p : ParsedProgramSection) → Says P o ps (of_number s (section_number p))
-      go (ParsedProgramSection.Section v) = none-says
-      go ParsedProgramSection.InvalidProgramSection = of-section 8 s true m refl
+      go : (p : Result ProgramSection ProgramSectionError) → Says P o ps (of_number s (section_number p))
+      go (Ok v) = none-says
+      go (Err ProgramSectionError.InvalidProgramSection) = of-section 8 s true m refl
 
   map-symbol-says : (s : Section) (y : Symbol) → s ∈ o.sections → y ∈ o.symbols → Says P o ps (map_symbol_refusal s y)
   unfolding map_symbol_refusal
@@ -176,7 +176,7 @@ module _ (P : ℕ → Type 0) (within : (n : ℕ) → of_object n ≡ true → P
       or-says (of-symbol 11 s y (is_some (find (eqb y.address) seen)) m (k y (inl refl)) refl)
       (shared_says s (y.address ∷ seen) ys m (λ z n. k z (inr n)))
 
-  stop-says : (s : Section) (p : Stop) → s ∈ o.sections → ((y : Symbol) → p.met ≡ some y → y ∈ o.symbols) → Says P o ps (stop_refusal s p)
+  stop-says : (s : Section) (p : Stop) → s ∈ o.sections → ((y : Symbol) → p.met ≡ Some y → y ∈ o.symbols) → Says P o ps (stop_refusal s p)
   unfolding stop_refusal
   stop-says s p m k =
       maybe-says p.met (of_section 12 s true)
@@ -211,19 +211,19 @@ module _ (P : ℕ → Type 0) (within : (n : ℕ) → of_object n ≡ true → P
   unfolding section_refusal
   section-says s m = go (is_kind Kind.BtfExt (kind_of s))
     where
-      go : (b : Bool) → Says P o ps (cond b none (or_else (reloc_refusal s) (kind_refusal o s)))
+      go : (b : Bool) → Says P o ps (cond b None (or_else (reloc_refusal s) (kind_refusal o s)))
       go true = none-says
       go false = or-says (reloc-says s m) (kind-says s m)
 
-  named-∈ : (name : List ℕ) (s : Section) → first_named name o.sections ≡ some s → s ∈ o.sections
+  named-∈ : (name : List ℕ) (s : Section) → first_named name o.sections ≡ Some s → s ∈ o.sections
   unfolding first_named
   named-∈ name s e = (find-∈ (λ t. same name t.name) s o.sections e).0
 
   object-says : Says P o ps (object_refusal o)
   unfolding object_refusal
   object-says =
-      or-says (maybe-says (first_named (ascii "license") o.sections) none licence_refusal none-says (λ s e. licence-says s (named-∈ (ascii "license") s e)))
-      (or-says (maybe-says (first_named (ascii "version") o.sections) none (version_refusal o.order) none-says (λ s e. version-says o.order s (named-∈ (ascii "version") s e)))
+      or-says (maybe-says (first_named (ascii "license") o.sections) None licence_refusal none-says (λ s e. licence-says s (named-∈ (ascii "license") s e)))
+      (or-says (maybe-says (first_named (ascii "version") o.sections) None (version_refusal o.order) none-says (λ s e. version-says o.order s (named-∈ (ascii "version") s e)))
       (first_says (section_refusal o) o.sections section-says))
 
   -- ---- 18 to 23: entry e, one of the list

@@ -1,9 +1,7 @@
 -- Demand 1, its part in the definitions: a refused call zeroes all that was lent and names one number with its places; only a lack of room is 24.
-use Rattle.std.specs.Prelude.{◌≡◌, refl, ◌⊎◌, Bool, true, false, List, ℕ, zero, suc, ◌+◌, ◌/◌, length, drop}
+use Rattle.std.specs.Prelude.{◌≡◌, refl, ◌⊎◌, Bool, true, false, List, ℕ, zero, suc, ◌+◌, ◌/◌, length, drop, Err, None, Ok, Option, Some}
 use Rattle.std.proofs.Common.{sym, ap, ◌∙◌, inl, inr, arith}
-use Rattle.std.proofs.Math.Option.{Option, none, some}
 use Rattle.model.specs.declared.Refusal.{Refusal}
-use Rattle.model.specs.declared.Answer.{Answer}
 use Rattle.model.specs.Bytes.{maybe, records}
 use Rattle.model.specs.Object.{Patch}
 use Rattle.model.specs.Catalogue.{Catalogue}
@@ -39,14 +37,14 @@ refused_says x ps on r h = outer (input_refusal x) (input-says x ps) (sym (verdi
   where
     inner : (q : Option Refusal) → Says (VerdictNumber x) (object_read x) ps q → verdict q (finish (object_read x) ps on (catalogue_of (object_read x))) ≡ refused r
         → VerdictNumber x r.number × Names (object_read x) ps r
-    inner none b e = let z : ◌≡◌ {A = ℕ} 0 1 = cc in let no : ⊥ = omega arith in absurd no
-    inner (some y) b e = let k : r ≡ y = cc in rw k b.said
+    inner None b e = let z : ◌≡◌ {A = ℕ} 0 1 = cc in let no : ⊥ = omega arith in absurd no
+    inner (Some y) b e = let k : r ≡ y = cc in rw k b.said
 
     outer : (q : Option Refusal) → Says (VerdictNumber x) (object_read x) ps q
         → maybe q (verdict (refusal_of (object_read x) ps) (finish (object_read x) ps on (catalogue_of (object_read x)))) (λ y. refused y) ≡ refused r
         → VerdictNumber x r.number × Names (object_read x) ps r
-    outer none b e = inner (refusal_of (object_read x) ps) (load-says x ps) e
-    outer (some y) b e = let k : r ≡ y = cc in rw k b.said
+    outer None b e = inner (refusal_of (object_read x) ps) (load-says x ps) e
+    outer (Some y) b e = let k : r ≡ y = cc in rw k b.said
 
 -- ---- the call
 
@@ -62,7 +60,7 @@ module _ (x : Input) (entries bytes : List ℕ) (on : Bool) (room : Room) where
 
   -- and a catalogue where it does
   pub large_is : (c : Catalogue) → verdict_on x (patches_of entries bytes) on ≡ accepted c → fits_in room (image_of c) ≡ true
-      → outcome_on x entries bytes on room ≡ record { reply = Answer.Accepted (summary_of c); lent = filled_to room (image_of c) }
+      → outcome_on x entries bytes on room ≡ record { reply = Ok (summary_of c); lent = filled_to room (image_of c) }
   large_is c e f = outcome-is x entries bytes on room ∙ ap (outcome_in room) e ∙ ap (outcome_if_fits room c) f
 
   -- why a call is refused
@@ -70,15 +68,15 @@ module _ (x : Input) (entries bytes : List ℕ) (on : Bool) (room : Room) where
     pub reason : (verdict_on x (patches_of entries bytes) on ≡ refused r) ⊎ ((r ≡ too_small) × Larger x entries bytes on room)
     pub call : outcome_on x entries bytes on room ≡ refused_outcome room r
 
-  why : (r : Refusal) → (outcome_on x entries bytes on room).reply ≡ Answer.Refused r → Refused r
+  why : (r : Refusal) → (outcome_on x entries bytes on room).reply ≡ Err r → Refused r
   why r q = go (verdict_on x (patches_of entries bytes) on) refl (ap (λ z. z.reply) (sym (outcome-is x entries bytes on room)) ∙ q)
     where
-      fit : (c : Catalogue) (b : Bool) → verdict_on x (patches_of entries bytes) on ≡ accepted c → fits_in room (image_of c) ≡ b → (outcome_if_fits room c b).reply ≡ Answer.Refused r
+      fit : (c : Catalogue) (b : Bool) → verdict_on x (patches_of entries bytes) on ≡ accepted c → fits_in room (image_of c) ≡ b → (outcome_if_fits room c b).reply ≡ Err r
           → Refused r
       fit c true e f q = let z : ◌≡◌ {A = ℕ} 0 1 = cc in let no : ⊥ = omega arith in absurd no
       fit c false e f q = let k : r ≡ too_small = cc in record { reason = inr (k, (c, e, f)); call = small_is c e f ∙ ap (refused_outcome room) (sym k) }
 
-      go : (a : Verdict) → verdict_on x (patches_of entries bytes) on ≡ a → (outcome_in room a).reply ≡ Answer.Refused r → Refused r
+      go : (a : Verdict) → verdict_on x (patches_of entries bytes) on ≡ a → (outcome_in room a).reply ≡ Err r → Refused r
       go (refused y) e q = let k : y ≡ r = cc in record { reason = inl (e ∙ ap refused k); call = refused-is y e ∙ ap (refused_outcome room) k }
       go (accepted c) e q = fit c (fits_in room (image_of c)) e refl q
 

@@ -1,8 +1,7 @@
 -- Demand 3, second half, on objects: an accepted patch list and rewriting come to `after`, by induction on the list, byte by byte.
-use Rattle.std.specs.Prelude.{◌≡◌, refl, Bool, true, false, cond, ◌&&◌, ◌||◌, not, List, [], ◌∷◌, ◌++◌, map, ℕ, suc, ◌+◌, ◌-◌, ◌<◌, ◌≤◌, eqb, ltb, leb, ℤ, pos, negsuc, length, get_or}
+use Rattle.std.specs.Prelude.{◌≡◌, refl, Bool, true, false, cond, ◌&&◌, ◌||◌, not, List, [], ◌∷◌, ◌++◌, map, ℕ, suc, ◌+◌, ◌-◌, ◌<◌, ◌≤◌, eqb, ltb, leb, ℤ, pos, negsuc, length, get_or, None, Option, Some}
 use Rattle.std.proofs.Common.{sym, ap, ◌∙◌, inl, inr, arith, eqb-true, ltb-true, ltb-false, leb-true, leb-false}
 use Rattle.std.proofs.lemmas.Simd.{map-map}
-use Rattle.std.proofs.Math.Option.{Option, none, some}
 use Rattle.std.proofs.lemmas.Bool.{not-false}
 use Rattle.std.proofs.lemmas.List.Edits.{sets}
 use Rattle.std.proofs.Math.Seq.{length-sets}
@@ -31,14 +30,14 @@ abbrev pub Sized : Object → List Patch → Type 0
 Sized o [] = Unit {0}
 Sized o (p ∷ ps) = SizedBy (bearers o p.name) p.bytes × Sized o ps
 
-sized_by : (ms : List Map) (e : ℕ) (p : Patch) (ys : List Symbol) → bearer_refusal ms e p ys ≡ none → SizedBy ys p.bytes
+sized_by : (ms : List Map) (e : ℕ) (p : Patch) (ys : List Symbol) → bearer_refusal ms e p ys ≡ None → SizedBy ys p.bytes
 unfolding bearer_refusal
 sized_by ms e p [] h = tt
 sized_by ms e p (y ∷ []) h =
     eqb-true _ _ (not-false _ (refuse-none _ 21 no_section no_symbol e (or_else-none (of_entry 21 e (not (eqb (length p.bytes) y.size))) (place_refusal ms e y) h).0))
 sized_by ms e p (y ∷ z ∷ ys) h = not_some _ h
 
-pub sized : (o : Object) (ms : List Map) (e : ℕ) (ps : List Patch) → patch_refusal o ms e ps ≡ none → Sized o ps
+pub sized : (o : Object) (ms : List Map) (e : ℕ) (ps : List Patch) → patch_refusal o ms e ps ≡ None → Sized o ps
 unfolding patch_refusal entry_refusal
 sized o ms e [] h = tt
 sized o ms e (p ∷ ps) h =
@@ -53,7 +52,7 @@ unfolding given_by
 one_byte y ys d own s i e h = at (lies_in s y.section) (leb y.address i) (ltb i (y.address + y.size)) refl refl
   where
     at : (a b c : Bool) → leb y.address i ≡ b → ltb i (y.address + y.size) ≡ c
-        → get_or (cond a (sets own y.address d) own) i 0 ≡ maybe (cond (a && (b && c)) (some (get_or d (i - y.address) 0)) none) (get_or own i 0) (λ b. b)
+        → get_or (cond a (sets own y.address d) own) i 0 ≡ maybe (cond (a && (b && c)) (Some (get_or d (i - y.address) 0)) None) (get_or own i 0) (λ b. b)
     at false b c p q = refl
     at true false c p q = sets-out 0 d own y.address i (inl (leb-false _ _ p))
     at true true false p q = let l : y.address + y.size ≤ i = ltb-false _ _ q in sets-out 0 d own y.address i (inr (omega arith))
@@ -62,8 +61,8 @@ one_byte y ys d own s i e h = at (lies_in s y.section) (leb y.address i) (ltb i 
 
 -- the byte after an entry and the rest of the list
 then-byte : (l g : Option ℕ) (a b : ℕ) → a ≡ maybe g b (λ x. x) → maybe l a (λ x. x) ≡ maybe (or_else l g) b (λ x. x)
-then-byte none g a b e = e
-then-byte (some x) g a b e = refl
+then-byte None g a b e = e
+then-byte (Some x) g a b e = refl
 
 one-length : (b : Bool) (own d : List ℕ) (a : ℕ) → length (cond b (sets own a d) own) ≡ length own
 one-length true own d a = length-sets own a d
@@ -131,7 +130,7 @@ finish-is o ps false c z =
     patched-is o ps c z ∙ ap (λ fs. with_functions c fs (map (map_after o ps) c.maps)) (sym (map-fixed (function_after false) c.functions off))
 finish-is o ps true c z = ap rewritten (patched-is o ps c z)
 
-alone : (o : Object) → object_refusal o ≡ none → verdict (refusal_of o []) (finish o [] false (catalogue_of o)) ≡ accepted (catalogue_of o)
+alone : (o : Object) → object_refusal o ≡ None → verdict (refusal_of o []) (finish o [] false (catalogue_of o)) ≡ accepted (catalogue_of o)
 unfolding refusal_of patch_refusal finish patched
 alone o e = rw e
 
@@ -144,24 +143,24 @@ second-half o ps on c h = go (refusal_of o ps) refl h
   where
     go : (r : Option Refusal) → refusal_of o ps ≡ r → verdict r (finish o ps on (catalogue_of o)) ≡ accepted c
         → (verdict (refusal_of o []) (finish o [] false (catalogue_of o)) ≡ accepted (catalogue_of o)) × (c ≡ after o ps on (catalogue_of o))
-    go (some r) e q = let z : ◌≡◌ {A = ℕ} 0 1 = cc in let no : ⊥ = omega arith in absurd no
-    go none e q = let (u, v) = none-parts o ps e in (alone o u, accepted-is (sym q) ∙ finish-is o ps on (catalogue_of o) (sized o (catalogue_of o).maps 1 ps v))
+    go (Some r) e q = let z : ◌≡◌ {A = ℕ} 0 1 = cc in let no : ⊥ = omega arith in absurd no
+    go None e q = let (u, v) = none-parts o ps e in (alone o u, accepted-is (sym q) ∙ finish-is o ps on (catalogue_of o) (sized o (catalogue_of o).maps 1 ps v))
 
 -- ---- what `after` says
 
 -- an entry that is passed over reaches nothing
-pub passed_over : (o : Object) (p : Patch) (s : SectionIndex) (i : ℕ) → bearers o p.name ≡ [] → given o p s i ≡ none
+pub passed_over : (o : Object) (p : Patch) (s : SectionIndex) (i : ℕ) → bearers o p.name ≡ [] → given o p s i ≡ None
 unfolding given_by
 passed_over o p s i e = rw e
 
-pub none-reaches : (o : Object) (ps : List Patch) (s : SectionIndex) (i : ℕ) → ((p : Patch) → p ∈ ps → given o p s i ≡ none) → last_given o ps s i ≡ none
+pub none-reaches : (o : Object) (ps : List Patch) (s : SectionIndex) (i : ℕ) → ((p : Patch) → p ∈ ps → given o p s i ≡ None) → last_given o ps s i ≡ None
 unfolding last_given
 none-reaches o [] s i h = refl
 none-reaches o (p ∷ ps) s i h = rw (none-reaches o ps s i (λ q m. h q (inr m)), h p (inl refl))
 
 -- p reaches the byte, and no later entry does
-pub last-reaches : (o : Object) (qs : List Patch) (p : Patch) (rs : List Patch) (s : SectionIndex) (i b : ℕ) → given o p s i ≡ some b
-    → ((r : Patch) → r ∈ rs → given o r s i ≡ none) → last_given o (qs ++ p ∷ rs) s i ≡ some b
+pub last-reaches : (o : Object) (qs : List Patch) (p : Patch) (rs : List Patch) (s : SectionIndex) (i b : ℕ) → given o p s i ≡ Some b
+    → ((r : Patch) → r ∈ rs → given o r s i ≡ None) → last_given o (qs ++ p ∷ rs) s i ≡ Some b
 unfolding last_given
 last-reaches o [] p rs s i b g n = rw (none-reaches o rs s i n, g)
 last-reaches o (q ∷ qs) p rs s i b g n = rw (last-reaches o qs p rs s i b g n)

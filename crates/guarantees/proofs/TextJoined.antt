@@ -1,10 +1,9 @@
 -- Demand 3, first half, the text: its walk fills the data with functions, and the catalogue lists just those, in that order.
-use Rattle.std.specs.Prelude.{◌≡◌, Bool, cond, ℕ, zero, suc, ◌+◌, ◌<◌, ◌≤◌, ◌/◌, ltb, length, drop}
+use Rattle.std.specs.Prelude.{◌≡◌, Bool, cond, ℕ, zero, suc, ◌+◌, ◌<◌, ◌≤◌, ◌/◌, ltb, length, drop, None, Option, Some}
 use Rattle.std.proofs.Math.Path.{refl, ap}
 use Rattle.std.proofs.Common.{sym, ◌∙◌, subst, inl, inr, arith, drop_of_length-le, take-append-drop, length-drop, drop-drop, length-take-le}
 use Rattle.std.proofs.Math.Bool.{true, false}
 use mathlib.Core.List.{List, [], ◌∷◌, ◌++◌, append-nil}
-use Rattle.std.proofs.Math.Option.{Option, none, some}
 use borrow.Author.Tests.{ne_eqb, eq-eqb, ltb-false}
 use Rattle.std.proofs.Math.Dec.{eqb}
 use Rattle.model.specs.declared.SectionIndex.{SectionIndex}
@@ -39,21 +38,21 @@ rise-from a b (f ∷ fs) h r = let q : b ≤ f.address = r.0 in (omega arith, r.
 -- ---- the walk
 
 walk-tiles : (s : Section) (ys : List Symbol) (n at : ℕ) → AllBytes s.bytes → length s.bytes ≤ n + at
-    → first_in (stop_refusal s) (stops n s ys at) ≡ none → Tiles s.bytes at (s.address + at) (each (text_function s) (stops n s ys at))
+    → first_in (stop_refusal s) (stops n s ys at) ≡ None → Tiles s.bytes at (s.address + at) (each (text_function s) (stops n s ys at))
 unfolding stops each first_in text_function function_at stop_refusal
 walk-tiles s ys zero at b l h =
     let k : length s.bytes ≤ at = omega arith in record { joined = sym (drop_of_length-le s.bytes k); follow = tt; rise = tt }
 walk-tiles s ys (suc n) at b l h = go (ltb at (length s.bytes)) (text_symbol_at s ys at) refl h (λ y. walk-tiles s ys n (at + y.size) b)
   where
     go : (c : Bool) (m : Option Symbol) → ltb at (length s.bytes) ≡ c
-        → first_in (stop_refusal s) (cond c (record { at = at; met = m } ∷ maybe m [] (λ y. stops n s ys (at + y.size))) []) ≡ none
-        → ((y : Symbol) → length s.bytes ≤ n + (at + y.size) → first_in (stop_refusal s) (stops n s ys (at + y.size)) ≡ none
+        → first_in (stop_refusal s) (cond c (record { at = at; met = m } ∷ maybe m [] (λ y. stops n s ys (at + y.size))) []) ≡ None
+        → ((y : Symbol) → length s.bytes ≤ n + (at + y.size) → first_in (stop_refusal s) (stops n s ys (at + y.size)) ≡ None
         → Tiles s.bytes (at + y.size) (s.address + (at + y.size)) (each (text_function s) (stops n s ys (at + y.size))))
         → Tiles s.bytes at (s.address + at) (each (text_function s) (cond c (record { at = at; met = m } ∷ maybe m [] (λ y. stops n s ys (at + y.size))) []))
     go false m e h r = record { joined = sym (drop_of_length-le s.bytes (ltb-false _ _ e)); follow = tt; rise = tt }
-    go true none e h r = not_some _ h
-    go true (some y) e h r =
-        let (u, v) = or_else-none (stop_refusal s (record { at = at; met = some y })) (first_in (stop_refusal s) (stops n s ys (at + y.size))) h in
+    go true None e h r = not_some _ h
+    go true (Some y) e h r =
+        let (u, v) = or_else-none (stop_refusal s (record { at = at; met = Some y })) (first_in (stop_refusal s) (stops n s ys (at + y.size))) h in
         let k : Met s at y = stop-accepted s at y u in
         let k₁ : 0 < y.size = k.some in
         let k₂ : at + y.size ≤ length s.bytes = k.inside in
@@ -69,17 +68,17 @@ walk-tiles s ys (suc n) at b l h = go (ltb at (length s.bytes)) (text_symbol_at 
         }
 
 -- each function covers as many bytes as the symbol that the walk meets has
-walk-covers : (o : Object) (s : Section) (f : Function) → AllBytes s.bytes → first_in (stop_refusal s) (walk_of o s) ≡ none
+walk-covers : (o : Object) (s : Section) (f : Function) → AllBytes s.bytes → first_in (stop_refusal s) (walk_of o s) ≡ None
     → f ∈ each (text_function s) (walk_of o s) → Covers o s f
 unfolding walk_of text_function function_at
 walk-covers o s f b h m = let (p, n, k) = each-∈ (text_function s) f (walk_of o s) m in go p p.met n refl k
   where
     go : (p : Stop) (t : Option Symbol) → p ∈ walk_of o s → p.met ≡ t → f ∈ maybe t [] (λ y. function_at s (s.address + p.at) p.at y ∷ []) → Covers o s f
-    go p none n e k = absurd k
-    go p (some y) n e (inr k) = absurd k
-    go p (some y) n e (inl q) =
-        let u : stop_refusal s p ≡ none = first_in-none (stop_refusal s) p (walk_of o s) h n in
-        let v : Met s p.at y = stop-accepted s p.at y (subst (λ t. stop_refusal s (record { at = p.at; met = t }) ≡ none) e u) in
+    go p None n e k = absurd k
+    go p (Some y) n e (inr k) = absurd k
+    go p (Some y) n e (inl q) =
+        let u : stop_refusal s p ≡ None = first_in-none (stop_refusal s) p (walk_of o s) h n in
+        let v : Met s p.at y = stop-accepted s p.at y (subst (λ t. stop_refusal s (record { at = p.at; met = t }) ≡ None) e u) in
         let v₁ : p.at + y.size ≤ length s.bytes = v.inside in
         let (i, a) = stop-∈ (length s.bytes) s (defined_text o s) 0 p y n e in
         let z : f.offset ≡ p.at = ap (λ g. g.offset) q in

@@ -1,7 +1,6 @@
 -- What holds of a deposit that passes numbers 1 to 3: its object is `Stated`, and its symbols' indexes are at least 1.
-use Rattle.std.specs.Prelude.{◌≡◌, true, ◌&&◌, not, List, [], ◌∷◌, ◌++◌, map, ℕ, zero, suc, ◌*◌, ◌<◌, ◌/◌, ltb, length, take, drop}
+use Rattle.std.specs.Prelude.{◌≡◌, true, ◌&&◌, not, List, [], ◌∷◌, ◌++◌, map, ℕ, zero, suc, ◌*◌, ◌<◌, ◌/◌, ltb, length, take, drop, None}
 use Rattle.std.proofs.Common.{ap, inl, inr, arith, ltb-true}
-use Rattle.std.proofs.Math.Option.{none}
 use Rattle.std.proofs.lemmas.Bool.{not-false}
 use Rattle.model.specs.declared.Head.{Head}
 use Rattle.model.specs.declared.SectionRecord.{SectionRecord}
@@ -100,7 +99,7 @@ symbols-from-1 d y e m = let p = parts_of (stream_of d) in above-stated p 0 p.sy
 
 -- ---- what 1 to 3 don't refuse
 
-pub deposit-passed : (d : List ℕ) → deposit_refusal d ≡ none → stream_ok d ≡ true
+pub deposit-passed : (d : List ℕ) → deposit_refusal d ≡ None → stream_ok d ≡ true
 unfolding deposit_refusal
 deposit-passed d e =
     let two = of_deposit 2 (not (stream_ok d)) in

@@ -1,7 +1,6 @@
 -- What holds of the object that a file of bytes states: it is `Stated`, and its symbols' indexes are at least 1.
-use Rattle.std.specs.Prelude.{◌≡◌, Bool, true, false, cond, List, [], map, length, take, drop}
+use Rattle.std.specs.Prelude.{◌≡◌, Bool, true, false, cond, List, [], map, length, take, drop, None, Option, Some}
 use Rattle.std.proofs.Common.{ap, inl, inr}
-use Rattle.std.proofs.Math.Option.{Option, none, some}
 use Prim.Native.Nat.{ℕ, zero, suc, ◌+◌, ◌-◌, ◌/◌, ◌<◌, min}
 use native.Mathlib.Omega.{arith}
 use Rattle.model.specs.declared.Endianness.{Endianness}
@@ -54,5 +53,5 @@ unfolding elf_object_of stated_in file_symbols
 elf-symbols-from-1 f y m = go (file_of f).symbols m
   where
     go : (t : Option Header) → y ∈ maybe t [] (file_symbols f (file_of f)) → 0 < y.index.0
-    go none m = absurd m
-    go (some t) m = above-entries (file_of f).order (strings_of f (file_of f) t.link) 0 (entry_count t - 1) (drop (t.offset + 24) f) y m
+    go None m = absurd m
+    go (Some t) m = above-entries (file_of f).order (strings_of f (file_of f) t.link) 0 (entry_count t - 1) (drop (t.offset + 24) f) y m

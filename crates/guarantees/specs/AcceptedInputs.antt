@@ -1,7 +1,6 @@
 -- What holds of an input that is accepted, a deposit or a file: its own refusals let it pass, so its object is `Stated`, and its load is its object's.
-use Rattle.std.specs.Prelude.{◌≡◌, refl, Bool, List, ℕ}
+use Rattle.std.specs.Prelude.{◌≡◌, refl, Bool, List, ℕ, None, Option, Some}
 use Rattle.std.proofs.Common.{sym, ◌∙◌, arith}
-use Rattle.std.proofs.Math.Option.{Option, none, some}
 use Rattle.model.specs.declared.Refusal.{Refusal}
 use Rattle.model.specs.declared.Room.{Room}
 use Rattle.model.specs.Bytes.{maybe, AllBytes}
@@ -38,15 +37,15 @@ outcome-is (Input.file f) entries bytes on room = refl
 -- ---- what is accepted
 
 pub input-accepted : (x : Input) (ps : List Patch) (on : Bool) (c : Catalogue) → verdict_on x ps on ≡ accepted c
-    → (input_refusal x ≡ none) × (load (object_read x) ps on ≡ accepted c)
+    → (input_refusal x ≡ None) × (load (object_read x) ps on ≡ accepted c)
 input-accepted x ps on c h = go (input_refusal x) refl (sym (verdict-is x ps on) ∙ h)
   where
     go : (r : Option Refusal) → input_refusal x ≡ r → maybe r (load (object_read x) ps on) (λ q. refused q) ≡ accepted c
-        → (input_refusal x ≡ none) × (load (object_read x) ps on ≡ accepted c)
-    go none e q = (e, q)
-    go (some r) e q = let z : ◌≡◌ {A = ℕ} 0 1 = cc in let no : ⊥ = omega arith in absurd no
+        → (input_refusal x ≡ None) × (load (object_read x) ps on ≡ accepted c)
+    go None e q = (e, q)
+    go (Some r) e q = let z : ◌≡◌ {A = ℕ} 0 1 = cc in let no : ⊥ = omega arith in absurd no
 
 -- its section indexes rise from 1, and its data are bytes
-pub input-stated : (x : Input) → AllBytes (input_bytes x) → input_refusal x ≡ none → Stated (object_read x)
+pub input-stated : (x : Input) → AllBytes (input_bytes x) → input_refusal x ≡ None → Stated (object_read x)
 input-stated (Input.deposit d) y e = deposit-stated d y (deposit-passed d e)
 input-stated (Input.file f) y e = elf-stated f y

@@ -1,7 +1,6 @@
 -- What holds of an object that is accepted: section by section, what was not refused.
-use Rattle.std.specs.Prelude.{◌≡◌, refl, Bool, true, false, cond, ◌||◌, not, List, [], ◌∷◌, map, ℕ, zero, suc, ◌+◌, ◌<◌, ◌≤◌, ◌%◌, eqb, ltb, leb, length}
+use Rattle.std.specs.Prelude.{◌≡◌, refl, Bool, true, false, cond, ◌||◌, not, List, [], ◌∷◌, map, ℕ, zero, suc, ◌+◌, ◌<◌, ◌≤◌, ◌%◌, eqb, ltb, leb, length, None, Option, Some}
 use Rattle.std.proofs.Common.{sym, ap, ◌∙◌, inl, inr, arith, eqb-true, ltb-false}
-use Rattle.std.proofs.Math.Option.{Option, none, some}
 use Rattle.std.proofs.lemmas.Bool.{eqb-false, not-false}
 use Rattle.model.specs.declared.EbpfSectionKind.{EbpfSectionKind as Kind}
 use Rattle.model.specs.Bytes.{ascii, or_else, first_in, find, maybe, each, ◌∈◌}
@@ -29,7 +28,7 @@ pub record Stated (o : Object) : Type 0 where
 
 -- 'accepted without patches or rewriting'
 abbrev pub Accepted : Object → Type 0
-Accepted o = refusal_of o [] ≡ none
+Accepted o = refusal_of o [] ≡ None
 
 -- ---- indexes tell sections apart
 
@@ -56,29 +55,29 @@ one_index n (u ∷ ss) s t r (inr p) (inr q) e = one_index u.index.0 ss s t r.1 
 
 -- ---- what is not refused
 
-pub section-accepted : (o : Object) (s : Section) → Accepted o → s ∈ o.sections → section_refusal o s ≡ none
+pub section-accepted : (o : Object) (s : Section) → Accepted o → s ∈ o.sections → section_refusal o s ≡ None
 unfolding object_refusal
 section-accepted o s h m =
     let (u, v) = none-parts o [] h in
-    let (a, b) = or_else-none (maybe (first_named (ascii "license") o.sections) none licence_refusal) (or_else (maybe (first_named (ascii "version") o.sections) none (version_refusal o.order)) (first_in (section_refusal o) o.sections)) u in
-    let (c, d) = or_else-none (maybe (first_named (ascii "version") o.sections) none (version_refusal o.order)) (first_in (section_refusal o) o.sections) b in
+    let (a, b) = or_else-none (maybe (first_named (ascii "license") o.sections) None licence_refusal) (or_else (maybe (first_named (ascii "version") o.sections) None (version_refusal o.order)) (first_in (section_refusal o) o.sections)) u in
+    let (c, d) = or_else-none (maybe (first_named (ascii "version") o.sections) None (version_refusal o.order)) (first_in (section_refusal o) o.sections) b in
     first_in-none (section_refusal o) s o.sections d m
 
-kind-accepted : (o : Object) (s : Section) → is_kind Kind.BtfExt (kind_of s) ≡ false → section_refusal o s ≡ none → kind_refusal o s ≡ none
+kind-accepted : (o : Object) (s : Section) → is_kind Kind.BtfExt (kind_of s) ≡ false → section_refusal o s ≡ None → kind_refusal o s ≡ None
 unfolding section_refusal
 kind-accepted o s e h = (or_else-none (reloc_refusal s) (kind_refusal o s) (rw e at h)).1
 
-text-kind : (o : Object) (s : Section) → kind_of s ≡ Kind.Text → kind_refusal o s ≡ none → text_refusal o s ≡ none
+text-kind : (o : Object) (s : Section) → kind_of s ≡ Kind.Text → kind_refusal o s ≡ None → text_refusal o s ≡ None
 unfolding kind_refusal
 text-kind o s e h = rw e at h
 
-pub text-accepted : (o : Object) (s : Section) → Accepted o → s ∈ o.sections → kind_of s ≡ Kind.Text → first_in (stop_refusal s) (walk_of o s) ≡ none
+pub text-accepted : (o : Object) (s : Section) → Accepted o → s ∈ o.sections → kind_of s ≡ Kind.Text → first_in (stop_refusal s) (walk_of o s) ≡ None
 unfolding text_refusal
 text-accepted o s h m e =
     let k : is_kind Kind.BtfExt (kind_of s) ≡ false = rw e in
     (or_else-none (shared_refusal s [] (defined_text o s)) (first_in (stop_refusal s) (walk_of o s)) (text-kind o s e (kind-accepted o s k (section-accepted o s h m)))).1
 
-program-kind : (o : Object) (s : Section) → kind_of s ≡ Kind.Program → kind_refusal o s ≡ none → program_refusal o s ≡ none
+program-kind : (o : Object) (s : Section) → kind_of s ≡ Kind.Program → kind_refusal o s ≡ None → program_refusal o s ≡ None
 unfolding kind_refusal
 program-kind o s e h = rw e at h
 
@@ -91,10 +90,10 @@ pub program-accepted : (o : Object) (s : Section) (y : Symbol) → Accepted o �
 unfolding program_refusal program_symbol_refusal passes invalid_program_code
 program-accepted o s y h m e n =
     let k : is_kind Kind.BtfExt (kind_of s) ≡ false = rw e in
-    let r : program_refusal o s ≡ none = program-kind o s e (kind-accepted o s k (section-accepted o s h m)) in
+    let r : program_refusal o s ≡ None = program-kind o s e (kind-accepted o s k (section-accepted o s h m)) in
     let (a, b) = or_else-none (of_number s (section_number (from_str s.name))) (or_else (of_section 9 s (is_empty (symbols_of o s))) (first_in (program_symbol_refusal s) (program_symbols o s))) r in
     let (c, d) = or_else-none (of_section 9 s (is_empty (symbols_of o s))) (first_in (program_symbol_refusal s) (program_symbols o s)) b in
-    let f : program_symbol_refusal s y ≡ none = first_in-none (program_symbol_refusal s) y (program_symbols o s) d n in
+    let f : program_symbol_refusal s y ≡ None = first_in-none (program_symbol_refusal s) y (program_symbols o s) d n in
     let big = ltb (length s.bytes) (y.address + y.size) in
     let wide = ltb top (y.address + y.size) in
     let low = ltb y.address s.address in
@@ -110,7 +109,7 @@ pub record Met (s : Section) (at : ℕ) (y : Symbol) : Type 0 where
   pub inside : at + y.size ≤ length s.bytes
   pub eights : y.size % 8 ≡ 0
 
-pub stop-accepted : (s : Section) (at : ℕ) (y : Symbol) → stop_refusal s (record { at = at; met = some y }) ≡ none → Met s at y
+pub stop-accepted : (s : Section) (at : ℕ) (y : Symbol) → stop_refusal s (record { at = at; met = Some y }) ≡ None → Met s at y
 unfolding stop_refusal invalid_program_code
 stop-accepted s at y h =
     let (a, b) = or_else-none (of_symbol 13 s y (eqb y.size 0)) (or_else (of_symbol 14 s y (ltb (length s.bytes) (at + y.size))) (of_symbol 15 s y (not (eqb (y.size % 8) 0)))) h in
@@ -123,13 +122,13 @@ stop-accepted s at y h =
     }
 
 -- the symbol that a walk meets is one of those that it searches, at the section's address plus the offset
-pub stop-∈ : (n : ℕ) (s : Section) (ys : List Symbol) (at : ℕ) (p : Stop) (y : Symbol) → p ∈ stops n s ys at → p.met ≡ some y
+pub stop-∈ : (n : ℕ) (s : Section) (ys : List Symbol) (at : ℕ) (p : Stop) (y : Symbol) → p ∈ stops n s ys at → p.met ≡ Some y
     → (y ∈ ys) × (y.address ≡ s.address + p.at)
 unfolding stops text_symbol_at
 stop-∈ zero s ys at p y m e = absurd m
 stop-∈ (suc n) s ys at p y m e = go (ltb at (length s.bytes)) (text_symbol_at s ys at) refl m (λ z k. stop-∈ n s ys (at + z.size) p y k e)
   where
-    here : (b : Bool) → cond b (find (λ z. eqb z.address (s.address + at)) ys) none ≡ some y → (y ∈ ys) × (y.address ≡ s.address + at)
+    here : (b : Bool) → cond b (find (λ z. eqb z.address (s.address + at)) ys) None ≡ Some y → (y ∈ ys) × (y.address ≡ s.address + at)
     here true q = let (m, k) = find-∈ (λ z. eqb z.address (s.address + at)) y ys q in (m, eqb-true _ _ k)
     here false q = not_some y (sym q)
 
@@ -139,8 +138,8 @@ stop-∈ (suc n) s ys at p y m e = go (ltb at (length s.bytes)) (text_symbol_at 
         → (y ∈ ys) × (y.address ≡ s.address + p.at)
     go true t q (inl k) r =
         let (m, a) = here (leb (s.address + at) top) (q ∙ sym (ap (λ x. x.met) k) ∙ e) in (m, a ∙ ap (λ x. s.address + x.at) (sym k))
-    go true none q (inr k) r = absurd k
-    go true (some z) q (inr k) r = r z k
+    go true None q (inr k) r = absurd k
+    go true (Some z) q (inr k) r = r z k
     go false t q k r = absurd k
 
 -- ---- the functions of one section
@@ -154,9 +153,9 @@ functions-section o s f m = go (is_kind Kind.Program (kind_of s)) (is_kind Kind.
     here p n = at p.met n
       where
         at : (y : Option Symbol) → f ∈ maybe y [] (λ z. function_at s (s.address + p.at) p.at z ∷ []) → f.section ≡ s.index
-        at none n = absurd n
-        at (some y) (inl q) = ap (λ g. g.section) q
-        at (some y) (inr n) = absurd n
+        at None n = absurd n
+        at (Some y) (inl q) = ap (λ g. g.section) q
+        at (Some y) (inr n) = absurd n
 
     program-here : (y : Symbol) → f ≡ program_function s y → f.section ≡ s.index
     program-here y q = ap (λ g. g.section) q

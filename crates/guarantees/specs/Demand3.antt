@@ -1,11 +1,9 @@
 -- DEMAND 3, to be read beside its text. Its words are defined in WordsOfDemand3.antt, in its order; all else that a statement names is model's.
 -- The contracts of `demand_3` and `demand_3_lent` in src/lib.rt name each statement; proofs/Demand3.antt shows it, as `demand-3-first`, `demand-3-second` and so on.
-use Rattle.std.specs.Prelude.{◌≡◌, Bool, true, false, List, [], ◌∷◌, ◌++◌, ℕ, ◌<◌, ℤ, length, get_or}
-use Rattle.std.proofs.Math.Option.{none, some}
+use Rattle.std.specs.Prelude.{◌≡◌, Bool, true, false, List, [], ◌∷◌, ◌++◌, ℕ, ◌<◌, ℤ, length, get_or, None, Ok, Some}
 use Rattle.model.specs.declared.SectionIndex.{SectionIndex}
 use Rattle.model.specs.declared.BpfInsn.{BpfInsn}
 use Rattle.model.specs.declared.Summary.{Summary}
-use Rattle.model.specs.declared.Answer.{Answer}
 use Rattle.model.specs.Bytes.{◌∈◌}
 use Rattle.model.specs.Object.{Object, Patch}
 use Rattle.model.specs.Catalogue.{Map, Catalogue}
@@ -56,18 +54,18 @@ MapBytes =
 -- p is the last entry that reaches byte i of the map of section s
 abbrev pub LastEntry : Type 0
 LastEntry =
-    (o : Object) (qs : List Patch) (p : Patch) (rs : List Patch) (s : SectionIndex) (i b : ℕ) → given o p s i ≡ some b
-    → ((r : Patch) → r ∈ rs → given o r s i ≡ none) → last_given o (qs ++ p ∷ rs) s i ≡ some b
+    (o : Object) (qs : List Patch) (p : Patch) (rs : List Patch) (s : SectionIndex) (i b : ℕ) → given o p s i ≡ Some b
+    → ((r : Patch) → r ∈ rs → given o r s i ≡ None) → last_given o (qs ++ p ∷ rs) s i ≡ Some b
 
 -- no entry reaches it
 abbrev pub NoEntry : Type 0
 NoEntry =
-    (o : Object) (ps : List Patch) (s : SectionIndex) (i : ℕ) → ((p : Patch) → p ∈ ps → given o p s i ≡ none) → last_given o ps s i ≡ none
+    (o : Object) (ps : List Patch) (s : SectionIndex) (i : ℕ) → ((p : Patch) → p ∈ ps → given o p s i ≡ None) → last_given o ps s i ≡ None
 
 -- 'entries passed over included': they reach nothing
 abbrev pub EntryPassedOver : Type 0
 EntryPassedOver =
-    (o : Object) (p : Patch) (s : SectionIndex) (i : ℕ) → bearers o p.name ≡ [] → given o p s i ≡ none
+    (o : Object) (p : Patch) (s : SectionIndex) (i : ℕ) → bearers o p.name ≡ [] → given o p s i ≡ None
 
 -- And of an instruction, with rewriting on: 'exactly the immediates document 01 names become the numbers it states'.
 abbrev pub Immediates : Type 0
@@ -78,7 +76,7 @@ Immediates =
 -- 'A later call that patches or rewrites a catalogue it takes is held to the same where it accepts, starting from that catalogue.'
 abbrev pub LaterCall : Type 0
 LaterCall =
-    (o : Object) (ps : List Patch) (on : Bool) (c : Catalogue) → patch_refusal o c.maps 1 ps ≡ none → finish o ps on c ≡ after o ps on c
+    (o : Object) (ps : List Patch) (on : Bool) (c : Catalogue) → patch_refusal o c.maps 1 ps ≡ None → finish o ps on c ≡ after o ps on c
 
 -- ---- the same of the call, with what it lends: the catalogue is read back from the answer and the lent tables
 
@@ -86,7 +84,7 @@ LaterCall =
 abbrev pub FirstLent : Type 0
 FirstLent =
     (a b : Input) (bytes bytes₂ : List ℕ) (room room₂ : Room) (h : Summary) → AllBytes (input_bytes a) → AllBytes (input_bytes b)
-    → (outcome_on a [] bytes false room).reply ≡ Answer.Accepted h → (outcome_on b [] bytes₂ false room₂).reply ≡ Answer.Accepted h
+    → (outcome_on a [] bytes false room).reply ≡ Ok h → (outcome_on b [] bytes₂ false room₂).reply ≡ Ok h
     → (outcome_on a [] bytes false room).lent ≡ (outcome_on b [] bytes₂ false room₂).lent
     → Fair (object_read a) → Fair (object_read b)
     → FirstHalf (object_read a) (object_read b) (read_back h (outcome_on a [] bytes false room).lent)
@@ -96,7 +94,7 @@ FirstLent =
 abbrev pub SecondLent : Type 0
 SecondLent =
     (x : Input) (entries bytes : List ℕ) (on : Bool) (room : Room) (h : Summary) → AllBytes (input_bytes x)
-    → (outcome_on x entries bytes on room).reply ≡ Answer.Accepted h
+    → (outcome_on x entries bytes on room).reply ≡ Ok h
     → (verdict_on x [] false ≡ accepted (catalogue_of (object_read x)))
     × (read_back h (outcome_on x entries bytes on room).lent ≡ after (object_read x) (patches_of entries bytes) on (catalogue_of (object_read x)))
 
@@ -104,6 +102,6 @@ SecondLent =
 abbrev pub SecondBoth : Type 0
 SecondBoth =
     (x : Input) (entries bytes bytes₂ : List ℕ) (on : Bool) (room room₂ : Room) (h k : Summary) → AllBytes (input_bytes x)
-    → (outcome_on x entries bytes on room).reply ≡ Answer.Accepted h → (outcome_on x [] bytes₂ false room₂).reply ≡ Answer.Accepted k
+    → (outcome_on x entries bytes on room).reply ≡ Ok h → (outcome_on x [] bytes₂ false room₂).reply ≡ Ok k
     → read_back h (outcome_on x entries bytes on room).lent
     ≡ after (object_read x) (patches_of entries bytes) on (read_back k (outcome_on x [] bytes₂ false room₂).lent)

@@ -1,11 +1,10 @@
--- Laws of options, tests and lists that the theorems cite: what an answer `none` or a test's value says, stores by place, and members.
-use Rattle.std.specs.Prelude.{◌≡◌, ◌⊎◌, Bool, cond, ℕ, suc, ◌+◌, ◌-◌, ◌<◌, ◌≤◌, eqb, length, get_or, set}
+-- Laws of options, tests and lists that the theorems cite: what an answer `None` or a test's value says, stores by place, and members.
+use Rattle.std.specs.Prelude.{◌≡◌, ◌⊎◌, Bool, cond, ℕ, suc, ◌+◌, ◌-◌, ◌<◌, ◌≤◌, eqb, length, get_or, set, None, Option, Some}
 use Rattle.std.proofs.Math.Path.{refl, ap}
 use Rattle.std.proofs.Common.{sym, ◌∙◌, ⊎_elim, arith, eqb-true, length-set, get_or-set_same, get_or-set_other}
 use Rattle.std.proofs.Math.Logic.{inl, inr}
 use Rattle.std.proofs.Math.Bool.{true, false}
 use mathlib.Core.List.{List, [], ◌∷◌, ◌++◌, map}
-use Rattle.std.proofs.Math.Option.{Option, none, some}
 use Rattle.std.proofs.lemmas.Bool.{eqb-false}
 use Rattle.std.proofs.lemmas.List.Edits.{sets}
 pub use Rattle.lists.specs.Tests.{not_some, true-not-false, both_false, both_true}
@@ -16,11 +15,11 @@ use Rattle.model.specs.Refusals.{refuse}
 
 -- ---- options and tests
 
-pub or_else-none : {A : Type 0} (a b : Option A) → or_else a b ≡ none → (a ≡ none) × (b ≡ none)
-or_else-none none b e = (refl, e)
-or_else-none (some x) b e = not_some x e
+pub or_else-none : {A : Type 0} (a b : Option A) → or_else a b ≡ None → (a ≡ None) × (b ≡ None)
+or_else-none None b e = (refl, e)
+or_else-none (Some x) b e = not_some x e
 
-pub refuse-none : (b : Bool) (n : ℕ) (s : SectionIndex) (y : SymbolIndex) (e : ℕ) → refuse b n s y e ≡ none → b ≡ false
+pub refuse-none : (b : Bool) (n : ℕ) (s : SectionIndex) (y : SymbolIndex) (e : ℕ) → refuse b n s y e ≡ None → b ≡ false
 refuse-none true n s y e h = not_some _ h
 refuse-none false n s y e h = refl
 
@@ -52,7 +51,7 @@ module _ {A B : Type 0} where
   map-ext f g [] h = refl
   map-ext f g (x ∷ l) h = λ k. h x k ∷ map-ext f g l h k
 
-  pub first_in-none : (f : A → Option B) (x : A) (l : List A) → first_in f l ≡ none → x ∈ l → f x ≡ none
+  pub first_in-none : (f : A → Option B) (x : A) (l : List A) → first_in f l ≡ None → x ∈ l → f x ≡ None
   unfolding first_in
   first_in-none f x [] e m = absurd m
   first_in-none f x (y ∷ l) e (inl q) = ap f q ∙ (or_else-none (f y) (first_in f l) e).0
@@ -80,12 +79,12 @@ module _ {A : Type 0} where
   ∈-++-right z (x ∷ l) r m = inr (∈-++-right z l r m)
 
   -- what is found is a member that passes the test
-  pub find-∈ : (p : A → Bool) (x : A) (l : List A) → find p l ≡ some x → (x ∈ l) × (p x ≡ true)
+  pub find-∈ : (p : A → Bool) (x : A) (l : List A) → find p l ≡ Some x → (x ∈ l) × (p x ≡ true)
   unfolding find first_in
   find-∈ p x [] e = not_some x (sym e)
   find-∈ p x (y ∷ l) e = go (p y) refl e (find-∈ p x l)
     where
-      go : (b : Bool) → p y ≡ b → or_else (cond b (some y) none) (find p l) ≡ some x → (find p l ≡ some x → (x ∈ l) × (p x ≡ true)) → (x ∈ (y ∷ l)) × (p x ≡ true)
+      go : (b : Bool) → p y ≡ b → or_else (cond b (Some y) None) (find p l) ≡ Some x → (find p l ≡ Some x → (x ∈ l) × (p x ≡ true)) → (x ∈ (y ∷ l)) × (p x ≡ true)
       go true h e r = let q : x ≡ y = cc in (inl q, ap p q ∙ h)
       go false h e r = let (m, k) = r e in (inr m, k)
 

@@ -1,7 +1,6 @@
 -- What is asked of a catalogue that is read back from its image; proofs/ReadBackImage.antt reads it back.
-use Rattle.std.specs.Prelude.{◌≡◌, ℤ, pos, negsuc}
+use Rattle.std.specs.Prelude.{◌≡◌, ℤ, pos, negsuc, None, Option, Some}
 use Rattle.std.proofs.Math.Path.{refl}
-use Rattle.std.proofs.Math.Option.{Option, none, some}
 use Prim.Native.Nat.{ℕ, ◌<◌}
 use Rattle.std.proofs.Math.ListN.{length}
 use Rattle.model.specs.Bytes.{◌∈◌}
@@ -41,8 +40,8 @@ pub record Ranged (i : BpfInsn) : Type 0 where
 
 -- a symbol's index is at least 1
 abbrev pub Numbered : Option SymbolIndex → Type 0
-Numbered none = Unit {0}
-Numbered (some y) = 0 < y.0
+Numbered None = Unit {0}
+Numbered (Some y) = 0 < y.0
 
 pub record Sound (c : Catalogue) : Type 0 where
   pub code : (f : Function) → f ∈ c.functions → (i : BpfInsn) → i ∈ f.code → Ranged i

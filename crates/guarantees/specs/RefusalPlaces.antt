@@ -1,8 +1,7 @@
 -- What a refusal of an object, a patch list, a deposit or a file says: its number, and the places that document 01 says this number names. proofs/RefusalPlaces.antt shows it.
-use Rattle.std.specs.Prelude.{◌≡◌, Bool, ◌&&◌, ◌||◌, ℕ, ◌≤◌, leb, length}
+use Rattle.std.specs.Prelude.{◌≡◌, Bool, ◌&&◌, ◌||◌, ℕ, ◌≤◌, leb, length, None, Option, Some}
 use Rattle.std.proofs.Math.Bool.{true, false}
 use mathlib.Core.List.{List}
-use Rattle.std.proofs.Math.Option.{Option, none, some}
 use Rattle.model.specs.declared.SectionIndex.{SectionIndex}
 use Rattle.model.specs.declared.SymbolIndex.{SymbolIndex}
 use Rattle.model.specs.declared.Refusal.{Refusal}
@@ -50,8 +49,8 @@ NumberFor (Input.file f) n = (3 ≤ n) × (n ≤ 26)
 
 -- a refusal whose number is one of those, and which names its places
 abbrev Said : (ℕ → Type 0) → Object → List Patch → Option Refusal → Type 0
-Said P o ps none = Unit {0}
-Said P o ps (some r) = P r.number × Names o ps r
+Said P o ps None = Unit {0}
+Said P o ps (Some r) = P r.number × Names o ps r
 
 pub record Says (P : ℕ → Type 0) (o : Object) (ps : List Patch) (r : Option Refusal) : Type 0 where
   pub said : Said P o ps r

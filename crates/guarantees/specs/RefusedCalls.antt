@@ -1,7 +1,6 @@
 -- Demand 1, its part in the definitions: a refused call zeroes all that was lent and names one number with its places; only a lack of room is 24. proofs/RefusedCalls.antt shows it.
-use Rattle.std.specs.Prelude.{◌≡◌, Bool, false, List, ℕ}
+use Rattle.std.specs.Prelude.{◌≡◌, Bool, false, List, ℕ, Err}
 use Rattle.model.specs.declared.Refusal.{Refusal}
-use Rattle.model.specs.declared.Answer.{Answer}
 use Rattle.model.specs.Catalogue.{Catalogue}
 use Rattle.model.specs.Patching.{accepted}
 use Rattle.model.specs.PatchList.{patches_of}
@@ -17,15 +16,15 @@ module _ (x : Input) (entries bytes : List ℕ) (on : Bool) (room : Room) where
 
   -- 'zeroes the lent catalogue'
   abbrev pub RefusedZeroes : Type 0
-  RefusedZeroes = (r : Refusal) → (outcome_on x entries bytes on room).reply ≡ Answer.Refused r → (outcome_on x entries bytes on room).lent ≡ zeroed room
+  RefusedZeroes = (r : Refusal) → (outcome_on x entries bytes on room).reply ≡ Err r → (outcome_on x entries bytes on room).lent ≡ zeroed room
 
   -- 'one numbered refusal of document 01', which 'names section, symbol and list entry'
   abbrev pub Proper : Refusal → Type 0
   Proper r = NumberFor x r.number × Names (object_read x) (patches_of entries bytes) r
 
   abbrev pub RefusedNames : Type 0
-  RefusedNames = (r : Refusal) → (outcome_on x entries bytes on room).reply ≡ Answer.Refused r → Proper r
+  RefusedNames = (r : Refusal) → (outcome_on x entries bytes on room).reply ≡ Err r → Proper r
 
   -- '24 comes last and only when the catalogue is truly larger'
   abbrev pub Only24 : Type 0
-  Only24 = (r : Refusal) → (outcome_on x entries bytes on room).reply ≡ Answer.Refused r → r.number ≡ 24 → Larger
+  Only24 = (r : Refusal) → (outcome_on x entries bytes on room).reply ≡ Err r → r.number ≡ 24 → Larger

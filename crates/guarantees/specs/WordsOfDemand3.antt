@@ -1,7 +1,6 @@
 -- The words of demand 3: what is read (`Input`), its provisos (`Fair`), what it says of sections (`FirstHalf`), and what a patch list and rewriting come to
 -- (`after`).
-use Rattle.std.specs.Prelude.{◌≡◌, ◌⊎◌, Bool, cond, ◌&&◌, List, [], ◌∷◌, map, ℕ, suc, ◌+◌, ◌-◌, ◌<◌, ◌≤◌, eqb, ltb, leb, ℤ, pos, length, get_or}
-use Rattle.std.proofs.Math.Option.{Option, none, some}
+use Rattle.std.specs.Prelude.{◌≡◌, ◌⊎◌, Bool, cond, ◌&&◌, List, [], ◌∷◌, map, ℕ, suc, ◌+◌, ◌-◌, ◌<◌, ◌≤◌, eqb, ltb, leb, ℤ, pos, length, get_or, None, Option, Some}
 use Rattle.lists.specs.Tab.{tab}
 use Rattle.model.specs.declared.SectionIndex.{SectionIndex}
 use Rattle.model.specs.declared.EbpfSectionKind.{EbpfSectionKind as Kind}
@@ -128,16 +127,16 @@ pub record FirstHalf (a b : Object) (c : Catalogue) : Type 0 where
 -- 'An accepted entry whose name is found reaches its symbol's bytes in the map of the symbol's section, from the symbol's address on, gives them its
 -- data in order': what an entry gives the byte i of the map of section s, if it reaches it; d is its data, and its name is borne by the symbols of the list
 unfoldable pub given_by : List Symbol → List ℕ → SectionIndex → ℕ → Option ℕ
-given_by [] d s i = none
+given_by [] d s i = None
 given_by (y ∷ ys) d s i =
-    cond (lies_in s y.section && (leb y.address i && ltb i (y.address + y.size))) (some (get_or d (i - y.address) 0)) none
+    cond (lies_in s y.section && (leb y.address i && ltb i (y.address + y.size))) (Some (get_or d (i - y.address) 0)) None
 
 abbrev pub given : Object → Patch → SectionIndex → ℕ → Option ℕ
 given o p s i = given_by (bearers o p.name) p.bytes s i
 
 -- 'each map byte an entry reaches is what the last such entry gives it'
 unfoldable pub last_given : Object → List Patch → SectionIndex → ℕ → Option ℕ
-last_given o [] s i = none
+last_given o [] s i = None
 last_given o (p ∷ ps) s i = or_else (last_given o ps s i) (given o p s i)
 
 -- 'After the list a map byte is what the last entry that reaches it gives, else as it was.'

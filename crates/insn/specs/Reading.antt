@@ -1,32 +1,26 @@
 -- What a reader has left to give, what it gives next, and the next call in it. Up to the next call rewriting changes nothing (`calls-passed`).
-use Rattle.std.specs.Prelude.{◌≡◌, Bool, cond, ◌&&◌, ℕ, zero, suc, ◌+◌, ◌-◌, ◌*◌, ◌/◌, ◌<◌, ◌≤◌, T, ltb, length}
+use Rattle.std.specs.Prelude.{◌≡◌, Option, Some, None, Bool, cond, ℕ, zero, suc, ◌+◌, ◌-◌, ◌*◌, ◌/◌, ◌<◌, ◌≤◌, ltb, length}
 use Rattle.std.proofs.Math.Path.{refl, sym, ap}
-use Rattle.std.proofs.Common.{◌∙◌, subst, arith, ltb-true, ltb-false, length-drop, drop_of_length-le, drop_at, drop-drop}
-use Rattle.std.proofs.Math.Bool.{true, false, not}
+use Rattle.std.proofs.Common.{◌∙◌, arith, ltb-true, ltb-false, length-drop, drop_of_length-le, drop_at, drop-drop}
+use Rattle.std.proofs.Math.Bool.{true, false}
 use mathlib.Core.List.{List, [], ◌∷◌, ◌++◌}
 use Rattle.std.proofs.Math.Dec.{eqb}
 use Rattle.std.proofs.Math.ListN.{drop}
+use borrow.Author.Tests.{ne_eqb}
 use Rattle.model.specs.declared.BpfInsn.{BpfInsn}
 use Rattle.model.specs.Bytes.{part, AllBytes}
 use Rattle.model.specs.Instruction.{instruction_of, instructions, rewrite}
 use Rattle.insn.specs.Stated.{rewrite-other}
 use Rattle.insn.specs.Slot.{sanitized_at, kept}
 use Rattle.insn.specs.Sanitized.{slots, slots-more, instructions-split}
-use Rattle.insn.specs.declared.Next.{Next}
-use Rattle.insn.specs.declared.Next.TheVariants.{Insn, End}
 
 -- the instructions of a function's bytes from a slot on
 abbrev pub instructions_from : List ℕ → ℕ → List BpfInsn
 instructions_from d slot = drop slot (instructions (length d / 8) d)
 
-abbrev pub next_of : List BpfInsn → Next
-next_of [] = End
-next_of (i ∷ is) = Insn i
-
--- an instruction that is no call, of a helper or of a function
-abbrev pub passed_over : Next → Bool
-passed_over (Insn i) = not (eqb i.code 0x85)
-passed_over End = false
+abbrev pub next_of : List BpfInsn → Option BpfInsn
+next_of [] = None
+next_of (i ∷ is) = Some i
 
 -- the slot of the first call among instructions that begin at a slot, or the slot behind them all
 unfoldable pub next_call : List BpfInsn → ℕ → ℕ
@@ -43,7 +37,7 @@ length-instructions (suc n) d = ap suc (length-instructions n (drop 8 d))
 length-left : (d : List ℕ) (slot : ℕ) → length (instructions_from d slot) ≡ length d / 8 - slot
 length-left d slot = length-drop slot (instructions (length d / 8) d) ∙ ap (λ (n : ℕ). n - slot) (length-instructions (length d / 8) d)
 
-pub left-some : (d : List ℕ) (slot : ℕ) → slot < length d / 8 → next_of (instructions_from d slot) ≡ Insn (instruction_of (part d (slot * 8) 8))
+pub left-some : (d : List ℕ) (slot : ℕ) → slot < length d / 8 → next_of (instructions_from d slot) ≡ Some (instruction_of (part d (slot * 8) 8))
 unfolding instructions
 left-some d slot h =
     let m = length d / 8 - (slot + 1) in
@@ -51,7 +45,7 @@ left-some d slot h =
     ap (λ (n : ℕ). next_of (drop slot (instructions n d))) e
     ∙ rw (instructions-split slot (suc m) d, drop_at (instructions slot d) (instructions (suc m) (drop (slot * 8) d)) slot (length-instructions slot d))
 
-pub left-none : (d : List ℕ) (slot : ℕ) → length d / 8 ≤ slot → next_of (instructions_from d slot) ≡ End
+pub left-none : (d : List ℕ) (slot : ℕ) → length d / 8 ≤ slot → next_of (instructions_from d slot) ≡ None
 left-none d slot h =
     let l : length (instructions (length d / 8) d) ≤ slot = rw length-instructions h in
     rw (drop_of_length-le (instructions (length d / 8) d) l)
@@ -60,40 +54,38 @@ left-none d slot h =
 left-more : (d : List ℕ) (slot : ℕ) → instructions_from d (slot + 1) ≡ drop 1 (instructions_from d slot)
 left-more d slot = sym (drop-drop 1 slot (instructions (length d / 8) d))
 
--- ---- a search for a call
-
--- it reads on only where an instruction was read
-pub read-on : (d : List ℕ) (slot : ℕ) → passed_over (next_of (instructions_from d slot)) ≡ true → slot < length d / 8
-read-on d slot e = go (ltb slot (length d / 8)) refl
+-- an instruction was read only where a whole slot is left
+pub read-inside : (d : List ℕ) (slot : ℕ) (i : BpfInsn) → next_of (instructions_from d slot) ≡ Some i → slot < length d / 8
+read-inside d slot i e = go (ltb slot (length d / 8)) refl
   where
     go : (b : Bool) → ltb slot (length d / 8) ≡ b → slot < length d / 8
     go true q = ltb-true slot (length d / 8) q
-    go false q = absurd (subst T (sym e ∙ ap passed_over (left-none d slot (ltb-false slot (length d / 8) q))) tt)
+    go false q = let none = left-none d slot (ltb-false slot (length d / 8) q) in cc
 
-call_met : (xs : List BpfInsn) (slot : ℕ) → passed_over (next_of xs) ≡ false → next_call xs slot ≡ slot
-unfolding next_call
-call_met [] slot e = refl
-call_met (i ∷ is) slot e = go (eqb i.code 0x85) e
-  where
-    go : (b : Bool) → not b ≡ false → cond b slot (next_call is (slot + 1)) ≡ slot
-    go true q = refl
-    go false q = absurd (subst T q tt)
+-- ---- a search for a call
 
-call-later : (xs : List BpfInsn) (slot : ℕ) → passed_over (next_of xs) ≡ true → next_call xs slot ≡ next_call (drop 1 xs) (slot + 1)
+-- a step of a search: what the first instruction tells
+next_call-none : (xs : List BpfInsn) (slot : ℕ) → next_of xs ≡ None → next_call xs slot ≡ slot
 unfolding next_call
-call-later [] slot e = absurd (subst T (sym e) tt)
-call-later (i ∷ is) slot e = go (eqb i.code 0x85) e
-  where
-    go : (b : Bool) → not b ≡ true → cond b slot (next_call is (slot + 1)) ≡ next_call is (slot + 1)
-    go true q = absurd (subst T (sym q) tt)
-    go false q = refl
+next_call-none [] slot e = refl
+next_call-none (x ∷ xs) slot e = cc
+
+next_call-some : (xs : List BpfInsn) (slot : ℕ) (i : BpfInsn) → next_of xs ≡ Some i → next_call xs slot ≡ cond (eqb i.code 0x85) slot (next_call (drop 1 xs) (slot + 1))
+unfolding next_call
+next_call-some [] slot i e = cc
+next_call-some (x ∷ xs) slot i e = let same : x ≡ i = cc in rw same
 
 -- where a search from a slot on ends, and what it does else
-pub search-ends : (d : List ℕ) (slot : ℕ) → passed_over (next_of (instructions_from d slot)) ≡ false → next_call (instructions_from d slot) slot ≡ slot
-search-ends d slot e = call_met (instructions_from d slot) slot e
+module _ (d : List ℕ) (slot : ℕ) where
+  pub search-ends : next_of (instructions_from d slot) ≡ None → next_call (instructions_from d slot) slot ≡ slot
+  search-ends = next_call-none (instructions_from d slot) slot
 
-pub search-goes-on : (d : List ℕ) (slot : ℕ) → passed_over (next_of (instructions_from d slot)) ≡ true → next_call (instructions_from d slot) slot ≡ next_call (instructions_from d (slot + 1)) (slot + 1)
-search-goes-on d slot e = call-later (instructions_from d slot) slot e ∙ ap (λ (xs : List BpfInsn). next_call xs (slot + 1)) (sym (left-more d slot))
+  pub search-meets : (i : BpfInsn) → next_of (instructions_from d slot) ≡ Some i → i.code ≡ 0x85 → next_call (instructions_from d slot) slot ≡ slot
+  search-meets i e h = rw h at (next_call-some (instructions_from d slot) slot i e)
+
+  pub search-goes-on : (i : BpfInsn) → next_of (instructions_from d slot) ≡ Some i → (i.code ≡ 0x85 → ⊥)
+      → next_call (instructions_from d slot) slot ≡ next_call (instructions_from d (slot + 1)) (slot + 1)
+  search-goes-on i e h = rw (left-more, next_call-some (instructions_from d slot) slot i e, ne_eqb i.code 0x85 h)
 
 pub call_from : (xs : List BpfInsn) (slot : ℕ) → slot ≤ next_call xs slot
 unfolding next_call
@@ -118,12 +110,8 @@ call-inside d slot h = omega (arith, call-most (instructions_from d slot) slot, 
 
 -- ---- what rewriting changes
 
-no_call : (i : BpfInsn) → not (eqb i.code 0x85) ≡ true → rewrite i ≡ i
-no_call i e = rewrite-other i (go (eqb i.code 0x85) e)
-  where
-    go : (b : Bool) → not b ≡ true → (b && eqb i.regs 0) ≡ false
-    go true q = absurd (subst T (sym q) tt)
-    go false q = refl
+no_call : (i : BpfInsn) → eqb i.code 0x85 ≡ false → rewrite i ≡ i
+no_call i e = rewrite-other i (rw e)
 
 -- a turn of a loop over the calls: the slots that a search passes over are as rewriting leaves them
 module _ (d code : List ℕ) (h : AllBytes code) where
@@ -134,9 +122,10 @@ module _ (d code : List ℕ) (h : AllBytes code) where
     where
       more : eqb i.code 0x85 ≡ false → code ≡ slots (k + 1) d ++ drop ((k + 1) * 8) d
       more q =
-          let on : passed_over (next_of (instructions_from code k)) ≡ true = ap (λ (xs : List BpfInsn). passed_over (next_of xs)) e ∙ ap not q in
-          let l = read-on code k on in
-          let same = no_call (instruction_of (part code (k * 8) 8)) (sym (ap passed_over (left-some code k l)) ∙ on) in
+          let l = read-inside code k i (ap next_of e) in
+          let some = left-some code k l in
+          let is : instruction_of (part code (k * 8) 8) ≡ i = cc (ap next_of e) in
+          let same : rewrite (instruction_of (part code (k * 8) 8)) ≡ instruction_of (part code (k * 8) 8) = no_call _ (rw is q) in
           sym (kept code (k * 8) (omega arith) h same) ∙ ap (λ (l : List ℕ). sanitized_at l (k * 8)) f ∙ slots-more k d
 
       go : (code ≡ slots (k + 1) d ++ drop ((k + 1) * 8) d → code ≡ slots (next_call is (k + 1)) d ++ drop (next_call is (k + 1) * 8) d)

@@ -1,77 +1,52 @@
 // The licence and the kernel version that an object asks for.
 #![tactic(auto)]
 
-ghost use Rattle.std.specs.Prelude.{◌≡◌, [], ◌∷◌, ◌+◌, ◌<◌, ◌≤◌, ◌^◌};
-ghost use Rattle.model.specs.Bytes.{little};
-ghost use Rattle.model.specs.LicenceVersion.{parse_license, number, parse_version};
-ghost use Rattle.stream.specs.Stream.{bytes_at};
+ghost use Rattle.std.specs.Prelude.{◌≡◌};
+ghost use Rattle.model.specs.LicenceVersion.{parse_license, parse_version};
+ghost use Rattle.stream.specs.Spans.{bytes_of};
 
-use model::{Endianness, KernelVersion, ParsedLicense, ParsedVersion};
-use stream::Run;
+use model::{Endianness, LicenseError, VersionError};
+use stream::Span;
 
 const KERNEL_VERSION_ANY: u32 = 0xFFFF_FFFE;
 
-pub fn parse_license(d: &[u8], gap: usize, at: usize, n: usize) -> ParsedLicense
-    requires { (gap ≤ 4) × (at + n < 2 ^ 63) }
-    ensures { result ≡ parse_license (bytes_at d.now gap at n) }
+#[tactic(auto, using(crate::proofs::Walk::short, crate::proofs::Walk::begins, crate::proofs::Walk::fits, crate::proofs::Walk::meets_zero, crate::proofs::Walk::closed, crate::proofs::Walk::open_end))]
+pub fn parse_license(section: Span) -> Result<u64, LicenseError>
+    ensures { result ≡ parse_license (bytes_of section.entry) }
 {
-    if n < 2 {
-        return ParsedLicense::InvalidLicense;
+    if section.len < 2 {
+        return Err(LicenseError::InvalidLicense);
     }
-    let last = n - 1;
-    let mut run = Run::new(gap, at);
-    let mut k: usize = 0;
-    while k < last {
-        if run.byte(d) == 0 {
-            return ParsedLicense::InvalidLicense;
+    let last = section.len - 1;
+    let mut run = section.stream.run(section.at);
+    for _ in 0..last {
+        if section.stream.byte(run) == 0 {
+            return Err(LicenseError::InvalidLicense);
         }
-        run = run.skip(gap, 1);
-        k += 1;
+        run = section.stream.skip(run, 1);
     }
-    if run.byte(d) == 0 {
-        ParsedLicense::License(last as u64)
+    if section.stream.byte(run) != 0 {
+        return Err(LicenseError::MissingLicenseNullTerminator);
+    }
+    Ok(last as u64)
+}
+
+#[tactic(auto, using(crate::proofs::Version::little_number, crate::proofs::Version::big_number, crate::proofs::Version::other, crate::proofs::Version::any, crate::proofs::Version::told))]
+pub fn parse_version(section: Span, order: Endianness) -> Result<Option<u32>, VersionError>
+    ensures { result ≡ parse_version order (bytes_of section.entry) }
+{
+    if section.len != 4 {
+        return Err(VersionError::InvalidKernelVersion);
+    }
+    let mut bytes = [0u8; 4];
+    section.stream.copy_bytes(section.at, &mut bytes);
+    let version = match order {
+        Endianness::Little => u32::from_le_bytes(bytes),
+        Endianness::Big => u32::from_be_bytes(bytes),
+    };
+    if version == KERNEL_VERSION_ANY {
+        Ok(None)
     } else {
-        ParsedLicense::MissingLicenseNullTerminator
-    }
-}
-
-fn wide(x: u8) -> u32
-    ensures { (result ≡ x) × (result < 256) }
-{
-    x as u32
-}
-
-fn from_le_bytes(a: u8, b: u8, c: u8, e: u8) -> u32
-    ensures { result ≡ little (a ∷ b ∷ c ∷ e ∷ []) }
-{
-    wide(a) + 256 * wide(b) + 65536 * wide(c) + 16777216 * wide(e)
-}
-
-// The number of four bytes in the object's byte order.
-fn read_u32(order: Endianness, a: u8, b: u8, c: u8, e: u8) -> u32
-    ensures { result ≡ number order (a ∷ b ∷ c ∷ e ∷ []) }
-{
-    match order {
-        Endianness::Little => from_le_bytes(a, b, c, e),
-        Endianness::Big => from_le_bytes(e, c, b, a),
-    }
-}
-
-pub fn parse_version(d: &[u8], gap: usize, at: usize, n: usize, order: Endianness) -> ParsedVersion
-    requires { (gap ≤ 4) × (at + n < 2 ^ 63) }
-    ensures { result ≡ parse_version order (bytes_at d.now gap at n) }
-{
-    if n != 4 {
-        return ParsedVersion::InvalidKernelVersion;
-    }
-    let a = stream::byte_at(d, gap, at);
-    let b = stream::byte_at(d, gap, at + 1);
-    let c = stream::byte_at(d, gap, at + 2);
-    let e = stream::byte_at(d, gap, at + 3);
-    let v = read_u32(order, a, b, c, e);
-    if v == KERNEL_VERSION_ANY {
-        ParsedVersion::Version(KernelVersion::Any)
-    } else {
-        ParsedVersion::Version(KernelVersion::Version(v))
+        Ok(Some(version))
     }
 }

@@ -1,17 +1,16 @@
 // Reads a deposit from standard input and writes its catalogue, or why it goes back.
 #![tactic(auto)]
 
-mod room;
-
-ghost use Rattle.std.specs.Prelude.{◌≡◌, ◌+◌, ◌*◌, ◌≤◌, length, take, IfOk};
+ghost use Rattle.std.specs.Prelude.{◌≡◌, ◌+◌, ◌*◌, ◌≤◌, length, take};
 ghost use Rattle.io.specs.Counts.{IsPrefixLen};
 ghost use Rattle.model.specs.FunctionNumbers.{flat_room};
 ghost use Rattle.model.specs.Listing.{too_long, listing_of};
 
+use input::{byte_room, number_room, read_full};
 use listing_text::{put_answer, put_refusal};
 use load_numbers::load_flat;
 use model::{Refusal, SectionIndex, SymbolIndex};
-use std::io::{Read, Result};
+use std::io::Result;
 
 fn too_long() -> Refusal
     ensures { result ≡ too_long }
@@ -24,7 +23,7 @@ fn too_long() -> Refusal
     }
 }
 
-// The text for deposit d into out; where it ends.
+// The text for deposit d into out; where it ends. `listing_elf` has its twin: each contract cites the definition of its own text.
 fn list(
     d: &[u8],
     sections: &mut [u64],
@@ -46,11 +45,10 @@ fn list(
     if 65536 < d.len() {
         return put_refusal(out, 0, too_long());
     }
-    let entries = [0u64; 0];
     let answer = load_flat(
         d,
-        &entries,
-        &d[0..0],
+        &[],
+        &[],
         false,
         sections,
         programs,
@@ -62,31 +60,17 @@ fn list(
     put_answer(out, 0, answer, programs, functions, maps, bytes)
 }
 
-// Reads until d is full or the input ends; how many bytes it put at the start of d.
-fn read_full(input: &mut impl Read, d: &mut [u8]) -> Result<usize>
-    ensures { IfOk result (λ n. n ≤ length d.new) }
-{
-    let mut done: usize = 0;
-    while done < d.len() {
-        let n = input.read(&mut d[done..])?;
-        if n == 0 {
-            break;
-        }
-        done += n;
-    }
-    Ok(done)
-}
-
+// The room that is lent is what docs/CATALOGUE.md states, and one byte more than a deposit may have.
 fn main(rt: HostRuntime) -> Result<()> {
-    let mut d = room::deposit();
+    let mut d = byte_room::<65537>();
     let n = read_full(&mut rt.reader(), &mut d)?;
-    let mut sections = room::sections();
-    let mut programs = room::symbols();
-    let mut functions = room::symbols();
-    let mut maps = room::maps();
-    let mut relocations = room::relocations();
-    let mut bytes = room::bytes();
-    let mut out = room::text();
+    let mut sections = number_room::<5416>();
+    let mut programs = number_room::<11368>();
+    let mut functions = number_room::<11368>();
+    let mut maps = number_room::<43848>();
+    let mut relocations = number_room::<16384>();
+    let mut bytes = byte_room::<524288>();
+    let mut out = byte_room::<1048576>();
     let end = list(
         &d[..n],
         &mut sections,

@@ -1,18 +1,17 @@
 // Reads an ELF file from standard input and writes its catalogue, or why it goes back.
 #![tactic(auto)]
 
-mod room;
-
-ghost use Rattle.std.specs.Prelude.{◌≡◌, ◌+◌, ◌*◌, ◌≤◌, length, take, IfOk};
+ghost use Rattle.std.specs.Prelude.{◌≡◌, ◌+◌, ◌*◌, ◌≤◌, length, take};
 ghost use Rattle.io.specs.Counts.{IsPrefixLen};
 ghost use Rattle.model.specs.ElfRefusals.{file_listing_of};
 ghost use Rattle.model.specs.FunctionNumbers.{flat_room};
 ghost use Rattle.listing_laws.specs.Text.{file_too_long};
 
+use input::{byte_room, number_room, read_full};
 use listing_text::{put_answer, put_refusal};
 use load_elf_numbers::load_flat_elf;
 use model::{Refusal, SectionIndex, SymbolIndex};
-use std::io::{Read, Result};
+use std::io::Result;
 
 fn too_long() -> Refusal
     ensures { result ≡ file_too_long }
@@ -25,7 +24,7 @@ fn too_long() -> Refusal
     }
 }
 
-// The text for file d into out; where it ends.
+// The text for file d into out; where it ends. `listing` has its twin: each contract cites the definition of its own text.
 fn list(
     d: &[u8],
     sections: &mut [u64],
@@ -47,11 +46,10 @@ fn list(
     if 1048576 < d.len() {
         return put_refusal(out, 0, too_long());
     }
-    let entries = [0u64; 0];
     let answer = load_flat_elf(
         d,
-        &entries,
-        &d[0..0],
+        &[],
+        &[],
         false,
         sections,
         programs,
@@ -63,31 +61,17 @@ fn list(
     put_answer(out, 0, answer, programs, functions, maps, bytes)
 }
 
-// Reads until d is full or the input ends; how many bytes it put at the start of d.
-fn read_full(input: &mut impl Read, d: &mut [u8]) -> Result<usize>
-    ensures { IfOk result (λ n. n ≤ length d.new) }
-{
-    let mut done: usize = 0;
-    while done < d.len() {
-        let n = input.read(&mut d[done..])?;
-        if n == 0 {
-            break;
-        }
-        done += n;
-    }
-    Ok(done)
-}
-
+// The room that is lent is what docs/CATALOGUE.md states, and one byte more than a file may have.
 fn main(rt: HostRuntime) -> Result<()> {
-    let mut d = room::file();
+    let mut d = byte_room::<1048577>();
     let n = read_full(&mut rt.reader(), &mut d)?;
-    let mut sections = room::sections();
-    let mut programs = room::symbols();
-    let mut functions = room::symbols();
-    let mut maps = room::maps();
-    let mut relocations = room::relocations();
-    let mut bytes = room::bytes();
-    let mut out = room::text();
+    let mut sections = number_room::<16384>();
+    let mut programs = number_room::<28672>();
+    let mut functions = number_room::<28672>();
+    let mut maps = number_room::<27648>();
+    let mut relocations = number_room::<32768>();
+    let mut bytes = byte_room::<1179648>();
+    let mut out = byte_room::<1867776>();
     let end = list(
         &d[..n],
         &mut sections,

@@ -1,8 +1,7 @@
 -- How long the text can be.
-use Rattle.std.specs.Prelude.{◌≡◌, Bool, true, false, cond, List, [], ◌∷◌, ◌++◌, ℕ, zero, suc, ◌+◌, ◌*◌, ◌/◌, ◌%◌, ◌≤◌, ltb, get_or, take, drop}
+use Rattle.std.specs.Prelude.{◌≡◌, Bool, true, false, cond, List, [], ◌∷◌, ◌++◌, ℕ, zero, suc, ◌+◌, ◌*◌, ◌/◌, ◌%◌, ◌≤◌, ltb, get_or, take, drop, None, Option, Some}
 use Rattle.std.proofs.Common.{suc-mul, arith}
 use Rattle.std.proofs.Math.ListN.{length, length-append}
-use Rattle.model.specs.declared.KernelVersion.{KernelVersion}
 use Rattle.model.specs.declared.Refusal.{Refusal}
 use Rattle.model.specs.Bytes.{each, records}
 use Rattle.model.specs.Catalogue.{Function, Map, Catalogue}
@@ -21,9 +20,9 @@ digits-most (suc k) n = go (ltb n 10) (digits k (n / 10)) (digits-most k (n / 10
     go true front h = omega arith
     go false front h = rw length-append (omega arith)
 
-version-most : (v : KernelVersion) → length (version_text v) ≤ 20
-version-most KernelVersion.Any = omega arith
-version-most (KernelVersion.Version n) = digits-most 20 n
+version-most : (v : Option ℕ) → length (version_text v) ≤ 20
+version-most None = omega arith
+version-most (Some n) = digits-most 20 n
 
 program-most : (b r : List ℕ) → length (program_line (program_read b r)) ≤ length (program_name (program_read b r)) + 67
 unfolding program_line line program_read

@@ -1,5 +1,5 @@
 -- What a load leaves in the lent tables, with the function table as numbers, gives the text of its definition.
-use Rattle.std.specs.Prelude.{◌≡◌, refl, Bool, ◌&&◌, List, [], ◌∷◌, ◌++◌, map, ℕ, zero, suc, ◌+◌, ◌*◌, ◌≤◌, take}
+use Rattle.std.specs.Prelude.{◌≡◌, refl, Bool, ◌&&◌, List, [], ◌∷◌, ◌++◌, map, ℕ, zero, suc, ◌+◌, ◌*◌, ◌≤◌, take, Ok}
 use Rattle.std.proofs.Math.Path.{ap}
 use Rattle.std.proofs.Common.{◌∙◌, append_assoc, not-suc-le-zero, le_of_suc-le-suc, length-append}
 use native.Mathlib.Omega.{arith}
@@ -8,7 +8,6 @@ use Rattle.std.proofs.Math.Dec.{leb}
 use Rattle.std.proofs.Math.ListN.{length}
 use Rattle.model.specs.declared.Function.{Function as FunctionRow}
 use Rattle.model.specs.declared.Summary.{Summary}
-use Rattle.model.specs.declared.Answer.{Answer}
 use Rattle.model.specs.Bytes.{each, records}
 use Rattle.model.specs.Catalogue.{Program, Function, Map}
 use Rattle.model.specs.FunctionNumbers.{flat_rows}
@@ -52,7 +51,7 @@ pub record CountsWithin (room : Room) (h : Summary) : Type 0 where
   pub maps : h.maps * 27 ≤ room.maps
   pub bytes : h.bytes ≤ room.bytes
 
-module _ (x : Input) (entries patches : List ℕ) (on : Bool) (room : Room) (h : Summary) (accepted : (outcome_on x entries patches on room).reply ≡ Answer.Accepted h) where
+module _ (x : Input) (entries patches : List ℕ) (on : Bool) (room : Room) (h : Summary) (accepted : (outcome_on x entries patches on room).reply ≡ Ok h) where
   given : Given x entries patches on room h
   given = given_is x entries patches on room h accepted
 

@@ -1,7 +1,8 @@
 -- What a load leaves in the lent tables, with the function table as numbers.
-use Rattle.std.specs.Prelude.{◌≡◌, List, ◌++◌, ℕ, ◌-◌, length, replicate}
+use Rattle.model.specs.declared.Summary.{Summary}
+use Rattle.model.specs.declared.Refusal.{Refusal}
+use Rattle.std.specs.Prelude.{◌≡◌, List, ◌++◌, ℕ, ◌-◌, length, replicate, Result}
 use Rattle.std.proofs.Common.{ap}
-use Rattle.model.specs.declared.Answer.{Answer}
 use Rattle.model.specs.FunctionNumbers.{flat_rows, flat, flat_of}
 use Rattle.model.specs.Lent.{Lent, Outcome}
 
@@ -13,7 +14,7 @@ pub record Flat (i : Lent) (programs functions maps bytes : List ℕ) : Type 0 w
   pub same-maps : maps ≡ i.maps
   pub same_bytes : bytes ≡ i.bytes
 
-module _ (n : ℕ) (o : Outcome) (r : Answer) (s p f m l b : List ℕ) (e : flat r s p f m l b ≡ flat_of n o) where
+module _ (n : ℕ) (o : Outcome) (r : Result Summary Refusal) (s p f m l b : List ℕ) (e : flat r s p f m l b ≡ flat_of n o) where
   pub flat-answer : r ≡ o.reply
   flat-answer = ap (λ x. x.reply) e
 

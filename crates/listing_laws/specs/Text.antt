@@ -1,10 +1,9 @@
 -- The text of a load that left its answer and its tables is the listing, and it has room.
-use Rattle.std.specs.Prelude.{◌≡◌, Bool, false, List, [], ℕ, ◌+◌, ◌*◌, ◌<◌, ◌≤◌}
+use Rattle.std.specs.Prelude.{◌≡◌, Bool, false, List, [], ℕ, ◌+◌, ◌*◌, ◌<◌, ◌≤◌, Err, Ok, Result}
 use Rattle.std.proofs.Common.{sym, ◌∙◌, arith, lt-ltb, le-ltb}
 use Rattle.std.proofs.Math.Path.{ap}
 use Rattle.std.proofs.Math.ListN.{length}
 use Rattle.model.specs.declared.Summary.{Summary}
-use Rattle.model.specs.declared.Answer.{Answer}
 use Rattle.model.specs.declared.Refusal.{Refusal}
 use Rattle.model.specs.Refusals.{no_section, no_symbol}
 use Rattle.model.specs.Bytes.{AllBytes}
@@ -24,19 +23,19 @@ use Rattle.listing_laws.specs.Loaded.{within, rows_fit, flat-is}
 
 module _ (x : Input) (entries patches : List ℕ) (on : Bool) (room : Room) where
   module _ (programs functions maps bytes : List ℕ) (flat : Flat (outcome_on x entries patches on room).lent programs functions maps bytes) where
-    pub answer-fits : (r : Answer) → r ≡ (outcome_on x entries patches on room).reply → AnswerFits r programs functions maps
-    answer-fits (Answer.Accepted h) e = rows_fit x entries patches on room h (sym e) programs functions maps bytes flat
-    answer-fits (Answer.Refused q) e = tt
+    pub answer-fits : (r : Result Summary Refusal) → r ≡ (outcome_on x entries patches on room).reply → AnswerFits r programs functions maps
+    answer-fits (Ok h) e = rows_fit x entries patches on room h (sym e) programs functions maps bytes flat
+    answer-fits (Err q) e = tt
 
-    pub answer-text : (r : Answer) → r ≡ (outcome_on x entries patches on room).reply → flat_answer r programs functions maps bytes ≡ text_of (outcome_on x entries patches on room)
+    pub answer-text : (r : Result Summary Refusal) → r ≡ (outcome_on x entries patches on room).reply → flat_answer r programs functions maps bytes ≡ text_of (outcome_on x entries patches on room)
     unfolding text_of
-    answer-text (Answer.Accepted h) e =
-        flat-is x entries patches on room h (sym e) programs functions maps bytes flat ∙ ap (λ (a : Answer). answer_text a (outcome_on x entries patches on room).lent) e
-    answer-text (Answer.Refused q) e = ap (λ (a : Answer). answer_text a (outcome_on x entries patches on room).lent) e
+    answer-text (Ok h) e =
+        flat-is x entries patches on room h (sym e) programs functions maps bytes flat ∙ ap (λ (a : Result Summary Refusal). answer_text a (outcome_on x entries patches on room).lent) e
+    answer-text (Err q) e = ap (λ (a : Result Summary Refusal). answer_text a (outcome_on x entries patches on room).lent) e
 
   -- 'what is lent' bounds the text
   module _ (small : AllBytes (input_bytes x)) where
-    accepted-most : (h : Summary) → (outcome_on x entries patches on room).reply ≡ Answer.Accepted h
+    accepted-most : (h : Summary) → (outcome_on x entries patches on room).reply ≡ Ok h
         → length (catalogue_text (read_back h (outcome_on x entries patches on room).lent)) ≤ h.bytes + h.programs * 67 + h.functions * 73 + h.maps * 68 + 38
     unfolding read_back summary_of
     accepted-most h e =
@@ -50,11 +49,11 @@ module _ (x : Input) (entries patches : List ℕ) (on : Bool) (room : Room) wher
         let m = catalogue-most i.bytes h.programs i.programs c (ap (λ x. x.programs) (sym back)) in
         rw back (omega arith)
 
-    pub text-most : (r : Answer) → r ≡ (outcome_on x entries patches on room).reply
+    pub text-most : (r : Result Summary Refusal) → r ≡ (outcome_on x entries patches on room).reply
         → length (text_of (outcome_on x entries patches on room)) ≤ room.bytes + 10 * room.programs + 73 * room.functions + 3 * room.maps + 71
     unfolding text_of
-    text-most (Answer.Accepted h) e = rw (sym e) (omega (arith, accepted-most h (sym e), within x entries patches on room h (sym e)))
-    text-most (Answer.Refused q) e = rw (sym e) (omega (arith, refusal-most q))
+    text-most (Ok h) e = rw (sym e) (omega (arith, accepted-most h (sym e), within x entries patches on room h (sym e)))
+    text-most (Err q) e = rw (sym e) (omega (arith, refusal-most q))
 
 pub long-text : (room : Room) (d : List ℕ) → 65536 < length d → listing_of room d ≡ refusal_text too_long
 unfolding listing_of

@@ -2,8 +2,7 @@
 use Rattle.std.specs.Prelude.{◌≡◌, refl, Bool, true, false, ℕ, zero, suc, ◌+◌, ◌-◌, ◌/◌, ◌%◌, ◌^◌, ◌<◌, ◌≤◌, ltb}
 use Rattle.std.proofs.Common.{not-suc-le-zero, le_of_suc-le-suc, pow-suc, arith, lt-ltb, le-ltb, ltb-true, ltb-false}
 use Rattle.std.proofs.Math.Nat.{pow-le-pow_right}
-use Rattle.io.specs.Digits.{hex_digit_ascii, IsDigitCount}
-use Rattle.io.specs.Digits.{last_digits as digitsIn}
+use Rattle.io.specs.Digits.{hex_digit_ascii, last_digits, IsDigitCount}
 use Rattle.model.specs.Listing.{digits, decimal}
 
 glyph-is : (n : ℕ) → hex_digit_ascii (n % 10) ≡ 48 + n % 10
@@ -13,7 +12,7 @@ power-least : (k : ℕ) → 10 ≤ 10 ^ suc k
 power-least zero = omega (arith, pow-suc 10 zero)
 power-least (suc k) = omega (arith, power-least k, pow-suc 10 (suc k))
 
-spelled : (m k n : ℕ) → suc k ≤ m → n < 10 ^ suc k → (0 < k → 10 ^ k ≤ n) → digitsIn 10 (suc k) n ≡ digits m n
+spelled : (m k n : ℕ) → suc k ≤ m → n < 10 ^ suc k → (0 < k → 10 ^ k ≤ n) → last_digits 10 (suc k) n ≡ digits m n
 unfolding digits
 spelled zero k n room most least = absurd (not-suc-le-zero room)
 spelled (suc m) zero n room most least =
@@ -23,7 +22,7 @@ spelled (suc m) zero n room most least =
 spelled (suc m) (suc k) n room most least =
     let l : 10 ^ suc k ≤ n = least (omega arith) in
     let h : 10 ≤ n = omega (arith, power-least k) in
-    let i : digitsIn 10 (suc k) (n / 10) ≡ digits m (n / 10) =
+    let i : last_digits 10 (suc k) (n / 10) ≡ digits m (n / 10) =
     spelled m k (n / 10) (le_of_suc-le-suc room) (omega (arith, pow-suc 10 (suc k))) (λ p. omega (arith, pow-suc 10 k))
     in
     rw (le-ltb n 10 h, glyph-is n, i)
@@ -43,7 +42,7 @@ room k n h f = go (ltb 20 k) refl
         let no : ⊥ = omega arith in absurd no
     go false e = ltb-false _ _ e
 
-pub decimal-is : (k n : ℕ) → n < 2 ^ 64 → IsDigitCount 10 1 n k → digitsIn 10 k n ≡ decimal n
+pub decimal-is : (k n : ℕ) → n < 2 ^ 64 → IsDigitCount 10 1 n k → last_digits 10 k n ≡ decimal n
 decimal-is zero n h f = let no : ⊥ = omega arith in absurd no
 decimal-is (suc k) n h f =
     let e : suc k - 1 ≡ k = omega arith in

@@ -1,9 +1,8 @@
 -- The listing's text from an answer and the lent tables, with the function table as numbers, seven a row.
-use Rattle.std.specs.Prelude.{List, [], ◌∷◌, ◌++◌, ℕ, ◌*◌, ◌≤◌, length, get_or, take}
-use Rattle.model.specs.declared.KernelVersion.{KernelVersion}
+use Rattle.model.specs.declared.Refusal.{Refusal}
+use Rattle.std.specs.Prelude.{List, [], ◌∷◌, ◌++◌, ℕ, ◌*◌, ◌≤◌, length, get_or, take, Err, Ok, Option, Result}
 use Rattle.model.specs.declared.Function.{Function as FunctionRow}
 use Rattle.model.specs.declared.Summary.{Summary}
-use Rattle.model.specs.declared.Answer.{Answer}
 use Rattle.model.specs.Bytes.{ascii, each, records}
 use Rattle.model.specs.Catalogue.{Function}
 use Rattle.model.specs.Lent.{range}
@@ -24,7 +23,7 @@ row_from r =
 abbrev pub function_from : List ℕ → List ℕ → Function
 function_from b r = function_read b (row_from r)
 
-unfoldable pub top_text : List ℕ → KernelVersion → List ℕ
+unfoldable pub top_text : List ℕ → Option ℕ → List ℕ
 top_text licence version = line (ascii "license") (licence ∷ []) ++ line (ascii "version") (version_text version ∷ [])
 
 unfoldable pub flat_text : Summary → List ℕ → List ℕ → List ℕ → List ℕ → List ℕ
@@ -34,9 +33,9 @@ flat_text h programs functions maps bytes =
     ++ (each function_line (records (function_from bytes) 7 h.functions functions)
     ++ each map_line (records (map_read bytes) 27 h.maps maps)))
 
-abbrev pub flat_answer : Answer → List ℕ → List ℕ → List ℕ → List ℕ → List ℕ
-flat_answer (Answer.Accepted h) programs functions maps bytes = flat_text h programs functions maps bytes
-flat_answer (Answer.Refused r) programs functions maps bytes = refusal_text r
+abbrev pub flat_answer : Result Summary Refusal → List ℕ → List ℕ → List ℕ → List ℕ → List ℕ
+flat_answer (Ok h) programs functions maps bytes = flat_text h programs functions maps bytes
+flat_answer (Err r) programs functions maps bytes = refusal_text r
 
 -- the tables have the rows that the summary counts
 pub record RowsFit (h : Summary) (ps fs ms : List ℕ) : Type 0 where
@@ -44,6 +43,6 @@ pub record RowsFit (h : Summary) (ps fs ms : List ℕ) : Type 0 where
   pub functions : h.functions * 7 ≤ length fs
   pub maps : h.maps * 27 ≤ length ms
 
-abbrev pub AnswerFits : Answer → List ℕ → List ℕ → List ℕ → Type 0
-AnswerFits (Answer.Accepted h) programs functions maps = RowsFit h programs functions maps
-AnswerFits (Answer.Refused r) programs functions maps = Prim.Unit {0}
+abbrev pub AnswerFits : Result Summary Refusal → List ℕ → List ℕ → List ℕ → Type 0
+AnswerFits (Ok h) programs functions maps = RowsFit h programs functions maps
+AnswerFits (Err r) programs functions maps = Prim.Unit {0}

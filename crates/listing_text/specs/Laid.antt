@@ -160,15 +160,11 @@ module _ (at n : ℕ) (s t : List ℕ) (h : at ≤ length t) (most : n ≡ min (
   front-is : take n s ≡ take (length t - at) s
   front-is = let k : n ≡ min (length t - at) (length s) = omega arith in ap (λ (i : ℕ). take i s) k ∙ take-least (length t - at) s
 
-  pub copied-laid : (ys : List ℕ) → ys ≡ take n s ++ drop (length (take n s)) (take (at + n - at) (drop at t))
-      → Laid at s t (at + n) (take at t ++ (ys ++ drop (at + n - at) (drop at t)))
+  pub copied-laid : (ys : List ℕ) → ys ≡ take n s → Laid at s t (at + n) (take at t ++ (ys ++ drop (at + n - at) (drop at t)))
   unfolding laid_end
   copied-laid ys e =
       let f : at + n - at ≡ n = omega arith in
-      let l : length (take n s) ≡ n = rw length-take (omega arith) in
-      let m : length (take n (drop at t)) ≤ n = rw length-take (omega arith) in
-      let ys-is : ys ≡ take n s = e ∙ rw (f, l, drop_of_length-le (take n (drop at t)) m, append-nil) in
       let u : take at t ++ (ys ++ drop (at + n - at) (drop at t)) ≡ laid at s t =
-      rw (ys-is, f, drop-drop n at t, rest-is, front-is) (sym (laid-is at s t))
+      rw (e, f, drop-drop n at t, rest-is, front-is) (sym (laid-is at s t))
       in
       record { end = omega arith; text = u; within = omega (arith, ap length u, length-laid at s t h) }

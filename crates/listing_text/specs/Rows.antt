@@ -1,12 +1,10 @@
 -- The rows of a table, and the lines that they give one after the other.
-use Rattle.std.specs.Prelude.{◌≡◌, List, [], ◌∷◌, ◌++◌, ℕ, zero, suc, ◌+◌, ◌*◌, ◌<◌, ◌≤◌, length, get_or, take, drop}
-use Rattle.std.proofs.Common.{sym, ap, ◌∙◌, append-nil, zero-mul, suc-mul, add-one, arith, get_or-take, get_or-drop, drop-drop}
+use Rattle.std.specs.Prelude.{◌≡◌, refl, List, [], ◌∷◌, ◌++◌, ℕ, zero, suc, ◌+◌, ◌*◌, ◌<◌, ◌≤◌, length, take, drop}
+use Rattle.std.proofs.Common.{sym, ap, ◌∙◌, append-nil, zero-mul, suc-mul, add-one, arith, drop-drop, length-drop}
+use Rattle.std.proofs.Math.Nat.{mul-le-mul_right}
 use Rattle.model.specs.Bytes.{each, records, part}
 use Rattle.catalogue_laws.specs.Numbers.{each_append}
 use Rattle.listing_text.specs.Laid.{Laid, then, same_text}
-
-pub row_at : (s : List ℕ) (p w k : ℕ) → k < w → get_or (part s p w) k 0 ≡ get_or s (p + k) 0
-row_at s p w k h = get_or-take w (drop p s) k 0 h ∙ get_or-drop p s k 0
 
 records-more : {A : Type 0} (f : List ℕ → A) (w k : ℕ) (s : List ℕ) → records f w (suc k) s ≡ records f w k s ++ (f (part s (k * w) w) ∷ [])
 unfolding records
@@ -24,3 +22,21 @@ row_laid line read w k p s h e a b =
     sym (rw (add-one, records-more read w k s, each_append line (records read w k s) (read (part s (k * w) w) ∷ []), append-nil, e))
     in
     same_text m (then h a b)
+
+module _ (w k : ℕ) where
+  -- where n rows have room and k of them are passed, one more is there
+  pub row-inside : (n : ℕ) (s : List ℕ) → k < n → n * w ≤ length s → w ≤ length (drop (k * w) s)
+  row-inside n s h room =
+      let m : (k + 1) * w ≤ n * w = let l : k + 1 ≤ n = omega arith in mul-le-mul_right w l in
+      let e : (k + 1) * w ≡ w + k * w = rw (add-one, suc-mul) (omega arith) in
+      rw length-drop (omega arith)
+
+  pub next-row : (s : List ℕ) → drop w (drop (k * w) s) ≡ drop ((k + 1) * w) s
+  next-row s = let e : k * w + w ≡ (k + 1) * w = rw (add-one, suc-mul) (omega arith) in drop-drop w (k * w) s ∙ ap (λ (i : ℕ). drop i s) e
+
+-- a line of what each row is read as is a line of the row
+pub each-records : {A : Type 0} (line : A → List ℕ) (read : List ℕ → A) (w n : ℕ) (s : List ℕ)
+    → each (λ (r : List ℕ). line (read r)) (records (λ (r : List ℕ). r) w n s) ≡ each line (records read w n s)
+unfolding each records
+each-records line read w zero s = refl
+each-records line read w (suc n) s = ap (λ (l : List ℕ). line (read (take w s)) ++ l) (each-records line read w n (drop w s))

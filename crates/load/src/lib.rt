@@ -6,7 +6,7 @@ ghost use Rattle.model.specs.Lent.{lent, room_in, outcome, load_of};
 
 use deposit::open;
 use load_opened::load_opened;
-use model::{Answer, Function};
+use model::{Function, Refusal, Summary};
 
 // A deposit is opened and loaded; it has no index.
 pub fn load(
@@ -20,7 +20,7 @@ pub fn load(
     maps: &mut [u64],
     relocations: &mut [u64],
     bytes: &mut [u8],
-) -> Answer
+) -> Result<Summary, Refusal>
     ensures { outcome result (lent sections.new programs.new functions.new maps.new relocations.new bytes.new)
         ≡ load_of d.now entries.now patches.now rewrite
         (room_in

@@ -1,5 +1,6 @@
 -- The arrays that a load works in, and the whole call.
-use Rattle.std.specs.Prelude.{◌≡◌, refl, Bool, true, ◌&&◌, List, ◌++◌, ℕ, ◌+◌, ◌≤◌, leb}
+use Rattle.model.specs.declared.Refusal.{Refusal}
+use Rattle.std.specs.Prelude.{◌≡◌, refl, Bool, true, ◌&&◌, List, ◌++◌, ℕ, ◌+◌, ◌≤◌, leb, Err, Ok, Result}
 use Rattle.std.proofs.Common.{sym, ◌∙◌, leb-true}
 use Rattle.lists.specs.Tests.{both_true}
 use Rattle.model.specs.Deposit.{load_deposit}
@@ -7,7 +8,6 @@ use Rattle.model.specs.Lent.{outcome_in, load_of}
 use Rattle.model.specs.PatchList.{patches_of}
 use Rattle.model.specs.Patching.{load}
 use Rattle.model.specs.declared.Room.{Room}
-use Rattle.object_view.specs.declared.Opened.{Opened}
 use Rattle.object_view.specs.declared.View.{View}
 use Rattle.object.specs.Opened.{opened-object}
 use Rattle.object.specs.View.{object_in}
@@ -26,13 +26,13 @@ few-both v n r b e f =
 
 -- ---- the whole call
 
-module _ (d t : List ℕ) (opened : Opened) (entries patches : List ℕ) (on : Bool) (n : ℕ) (room : Room) where
-  pub opened-loads : (v : View) (r : Loaded) (s p m l b f rest : List ℕ) → opened ≡ Opened.View v
+module _ (d t : List ℕ) (opened : Result View Refusal) (entries patches : List ℕ) (on : Bool) (n : ℕ) (room : Room) where
+  pub opened-loads : (v : View) (r : Loaded) (s p m l b f rest : List ℕ) → opened ≡ Ok v
       → FrontDone d t n (outcome_in room (load (object_in d t v) (patches_of entries patches) on)) r s p m l b f
       → CoreDone d t n (outcome_in room (verdict_in d t opened entries patches on)) r s p m l b (f ++ rest)
   opened-loads v r s p m l b f rest e w = rw e (w rest)
 
-pub open-view : (d t : List ℕ) (o : Opened) (v : View) → Open d t o → o ≡ Opened.View v → Readable d t v
+pub open-view : (d t : List ℕ) (o : Result View Refusal) (v : View) → Open d t o → o ≡ Ok v → Readable d t v
 open-view d t o v r e = rw e at r
 
 -- ---- a deposit
@@ -40,15 +40,15 @@ open-view d t o v r e = rw e at r
 pub open-deposit : (d t : List ℕ) → Open d t (opened_of d)
 open-deposit d t = go (opened_of d) refl
   where
-    go : (o : Opened) → opened_of d ≡ o → Open d t o
-    go (Opened.Refused q) e = tt
-    go (Opened.View v) e = readable d t v e
+    go : (o : Result View Refusal) → opened_of d ≡ o → Open d t o
+    go (Err q) e = tt
+    go (Ok v) e = readable d t v e
 
 -- numbers 1 to 3 as its refusal, else its object
 pub deposit-outcome : (d t entries patches : List ℕ) (on : Bool) (room : Room) → outcome_in room (verdict_in d t (opened_of d) entries patches on) ≡ load_of d entries patches on room
 unfolding load_of load_deposit
 deposit-outcome d t entries patches on room = go (opened_of d) refl
   where
-    go : (o : Opened) → opened_of d ≡ o → outcome_in room (verdict_in d t o entries patches on) ≡ load_of d entries patches on room
-    go (Opened.Refused q) e = rw (refused-by d q e)
-    go (Opened.View v) e = let a = accepted d v e in rw (a.1.no-refusal, opened-object d t v e)
+    go : (o : Result View Refusal) → opened_of d ≡ o → outcome_in room (verdict_in d t o entries patches on) ≡ load_of d entries patches on room
+    go (Err q) e = rw (refused-by d q e)
+    go (Ok v) e = let a = accepted d v e in rw (a.1.no-refusal, opened-object d t v e)

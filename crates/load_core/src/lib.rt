@@ -12,7 +12,8 @@ ghost use Rattle.load_object.specs.Done.{Open, symbol_count, verdict_in, CoreDon
 use load_large::{load_4096, load_65536};
 use load_object::{Loaded, refuse};
 use load_small::{load_64, load_512};
-use object_view::{Opened, View};
+use model::Refusal;
+use object_view::View;
 use stream::size;
 
 // Tells whether n numbers are enough for the sections with the symbols, and r for the relocations.
@@ -147,7 +148,7 @@ fn load_sized(
 pub fn load_core(
     d: &[u8],
     t: &[u32],
-    opened: Opened,
+    opened: Result<View, Refusal>,
     entries: &[u64],
     patches: &[u8],
     rewrite: bool,
@@ -168,8 +169,8 @@ pub fn load_core(
         result sections.new programs.new maps.new relocations.new bytes.new symbols.new }
 {
     match opened {
-        Opened::Refused(r) => refuse(r, sections, programs, maps, relocations, bytes),
-        Opened::View(v) => {
+        Err(r) => refuse(r, sections, programs, maps, relocations, bytes),
+        Ok(v) => {
             let y = size(v.symbols);
             load_sized(
                 d,

@@ -1,8 +1,6 @@
 -- The outcome of a load of an object, by what refuses it and by its catalogue without patches or rewriting.
-use Rattle.std.specs.Prelude.{◌≡◌, Bool, true, false, List, ℕ}
+use Rattle.std.specs.Prelude.{◌≡◌, Bool, true, false, List, ℕ, None, Ok, Option, Some}
 use Rattle.std.proofs.Common.{◌∙◌}
-use Rattle.std.proofs.Math.Option.{Option, none, some}
-use Rattle.model.specs.declared.Answer.{Answer}
 use Rattle.model.specs.declared.Refusal.{Refusal}
 use Rattle.model.specs.Catalogue.{Catalogue}
 use Rattle.model.specs.Contents.{catalogue_of}
@@ -24,15 +22,15 @@ module _ (room : Room) (o : Object) (ps : List Patch) where
   abbrev pub RefusedWith : Refusal → Type 0
   RefusedWith q = (on : Bool) → outcome_in room (load o ps on) ≡ refused_outcome room q
 
-  pub back-object : (q : Refusal) → object_refusal o ≡ some q → RefusedWith q
+  pub back-object : (q : Refusal) → object_refusal o ≡ Some q → RefusedWith q
   unfolding load refusal_of
   back-object q e on = rw e
 
-  pub back-patches : (q : Refusal) → object_refusal o ≡ none → patches_refused ≡ some q → RefusedWith q
+  pub back-patches : (q : Refusal) → object_refusal o ≡ None → patches_refused ≡ Some q → RefusedWith q
   unfolding load refusal_of
   back-patches q e f on = rw (e, f)
 
-  module _ (e : object_refusal o ≡ none) (f : patches_refused ≡ none) where
+  module _ (e : object_refusal o ≡ None) (f : patches_refused ≡ None) where
     accepted-is : (on : Bool) → outcome_in room (load o ps on) ≡ outcome_if_fits room (finish o ps on c) (fits_in room (image_of (finish o ps on c)))
     unfolding load refusal_of
     accepted-is on = rw (e, f)
@@ -53,10 +51,10 @@ module _ (room : Room) (o : Object) (ps : List Patch) where
         }
 
     pub goes : fits_in room (image_of c) ≡ true → (on : Bool)
-        → outcome_in room (load o ps on) ≡ record { reply = Answer.Accepted (summary_of c); lent = filled_to room (image_but (bytes_of (finish o ps on c))) }
+        → outcome_in room (load o ps on) ≡ record { reply = Ok (summary_of c); lent = filled_to room (image_but (bytes_of (finish o ps on c))) }
     goes g on =
         let a = alike-finish o ps on c in
         let k = finish o ps on c in
         accepted-is on
         ∙ rw (fits-alike c k a room, g)
-        (λ i. record { reply = Answer.Accepted (summary-alike c k a i); lent = filled_to room (image-alike c k a i) })
+        (λ i. record { reply = Ok (summary-alike c k a i); lent = filled_to room (image-alike c k a i) })

@@ -1,6 +1,5 @@
 -- The check of a patch list, and what it leaves for the act.
-use Rattle.std.specs.Prelude.{◌≡◌, List, [], ◌++◌, ℕ, ◌<◌, ◌≤◌, length, take}
-use Rattle.std.proofs.Math.Option.{none}
+use Rattle.std.specs.Prelude.{◌≡◌, List, [], ◌++◌, ℕ, ◌<◌, ◌≤◌, length, take, None}
 use Rattle.std.proofs.Common.{take_at}
 use Rattle.lists.specs.Tab.{length-tab}
 use Rattle.object_view.specs.declared.View.{View}
@@ -22,7 +21,7 @@ pub record ReadyToPatch (d t : List ℕ) (v : View) (entries maps : List ℕ) (n
   pub named : 0 < length entries → NamesFound d t v entries order
   pub sited : 0 < length entries → Sited d t v maps n by
 
-pub no-entries : (o : Object) (ms : List Map) (entries lent : List ℕ) → length entries ≡ 0 → patch_refusal o ms 1 (patches_of entries lent) ≡ none
+pub no-entries : (o : Object) (ms : List Map) (entries lent : List ℕ) → length entries ≡ 0 → patch_refusal o ms 1 (patches_of entries lent) ≡ None
 unfolding patch_refusal patches_of records
 no-entries o ms entries lent e = rw e
 
@@ -31,7 +30,7 @@ module _ (d t : List ℕ) (v : View) where
   unfolding map_places
   places-front ns by rest e = rw e (take_at (map_places d t v ns) rest v.sections (length-tab _ v.sections))
 
-  pub sited : (maps : List ℕ) (n : ℕ) (by rest : List ℕ) (r : Readable d t v) → object_refusal (object_in d t v) ≡ none → n ≤ length maps → take n maps ≡ map_numbers d t v
+  pub sited : (maps : List ℕ) (n : ℕ) (by rest : List ℕ) (r : Readable d t v) → object_refusal (object_in d t v) ≡ None → n ≤ length maps → take n maps ≡ map_numbers d t v
       → by ≡ map_places d t v (take n maps) ++ rest → Sited d t v maps n by
   sited maps n by rest r ok l e f =
       record { readable = r; within = l; fits = all-maps d t v n maps l [] r ok e; places = places-front (take n maps) by rest f }

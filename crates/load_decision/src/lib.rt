@@ -1,8 +1,7 @@
 // What a load decides of an object that is not refused, before it fills the lent tables: whether its catalogue fits, and what refuses a patch list.
 #![tactic(auto)]
 
-ghost use Rattle.std.specs.Prelude.{◌≡◌, ◌≤◌, length, take};
-ghost use Rattle.std.proofs.Math.Option.{none};
+ghost use Rattle.std.specs.Prelude.{◌≡◌, ◌≤◌, length, take, None};
 ghost use Rattle.model.specs.Lent.{too_small as too_small_of};
 ghost use Rattle.model.specs.PatchList.{patches_of};
 ghost use Rattle.model.specs.Refusals.{object_refusal, patch_refusal};
@@ -18,7 +17,6 @@ ghost use Rattle.load_decision.specs.Room.{fits_by};
 
 use bytes_layout::Places;
 use model::{Refusal, Room, SectionIndex, SymbolIndex};
-use object::Checked;
 use object_view::View;
 use parse_sections::Counts;
 use patch_checks::{longest_name, patch_refusal};
@@ -33,12 +31,6 @@ pub struct Plan {
     pub counts: Counts,
     pub relocations: usize,
     pub places: Places,
-}
-
-#[derive(Clone, Copy)]
-pub enum Decision {
-    Refused(Refusal),
-    Accepted(Plan),
 }
 
 fn fits(room: Room, n: Counts, relocations: usize, bytes: usize) -> bool
@@ -88,9 +80,9 @@ pub fn decide_room(
     numbers: &mut [u32],
     tmp: &mut [u32],
     relocations: &mut [u64],
-) -> Decision
+) -> Result<Plan, Refusal>
     requires { Readable d.now t.now v
-        × (object_refusal (object_in d.now t.now v) ≡ none)
+        × (object_refusal (object_in d.now t.now v) ≡ None)
         × Held d.now t.now v n sections.now programs.now functions.now maps.now
         × (v.relocations ≤ length numbers.old)
         × (v.relocations ≤ length tmp.old)
@@ -101,9 +93,9 @@ pub fn decide_room(
     let count = put_relocation_rows(d, t, v, numbers, tmp, relocations);
     let places = bytes_layout::layout(d, t, v, n, sections, programs, functions, maps);
     if !fits(room, n, count, places.end) {
-        return Decision::Refused(too_small());
+        return Err(too_small());
     }
-    Decision::Accepted(Plan {
+    Ok(Plan {
         counts: n,
         relocations: count,
         places: places,
@@ -121,9 +113,9 @@ pub fn decide_patches(
     n: usize,
     symbols: &mut [u32],
     by: &mut [u32],
-) -> Checked
+) -> Result<(), Refusal>
     requires { Readable d.now t.now v
-        × (object_refusal (object_in d.now t.now v) ≡ none)
+        × (object_refusal (object_in d.now t.now v) ≡ None)
         × (n ≤ length maps.now)
         × (n ≤ 69632)
         × (take n maps.now ≡ map_numbers d.now t.now v)
@@ -137,7 +129,7 @@ pub fn decide_patches(
         × ReadyToPatch d.now t.now v entries.now maps.now n symbols.new by.new }
 {
     if entries.len() == 0 {
-        return Checked::Fine;
+        return Ok(());
     }
     let y = size(v.symbols);
     let longest = longest_name(entries);

@@ -8,18 +8,18 @@ ghost use Rattle.elf.specs.Opened.{index_length};
 ghost use Rattle.load_file.specs.Files.{Checks};
 
 use elf::index_length;
-use elf_layout::FileCheck;
+use elf_layout::Layout;
 use elf_tables::check;
 use load_file::{load_512, load_16384, load_143360};
-use model::{Answer, Function};
+use model::{Function, Refusal, Summary};
 
-fn is_small(checked: FileCheck) -> bool
+fn is_small(checked: Result<Layout, Refusal>) -> bool
     ensures { result ≡ leb (index_length checked) 512 }
 {
     index_length(checked) <= 512
 }
 
-fn is_medium(checked: FileCheck) -> bool
+fn is_medium(checked: Result<Layout, Refusal>) -> bool
     ensures { result ≡ leb (index_length checked) 16384 }
 {
     index_length(checked) <= 16384
@@ -30,7 +30,7 @@ fn is_medium(checked: FileCheck) -> bool
 fn load_more(
     tries: u32,
     d: &[u8],
-    checked: FileCheck,
+    checked: Result<Layout, Refusal>,
     entries: &[u64],
     patches: &[u8],
     rewrite: bool,
@@ -40,7 +40,7 @@ fn load_more(
     maps: &mut [u64],
     relocations: &mut [u64],
     bytes: &mut [u8],
-) -> Answer
+) -> Result<Summary, Refusal>
     requires { Checks d.now checked }
     ensures { outcome result (lent sections.new programs.new functions.new maps.new relocations.new bytes.new)
         ≡ load_elf_of d.now entries.now patches.now rewrite
@@ -96,7 +96,7 @@ fn load_more(
 // A file that was checked is loaded, with its index in the array that its counts ask for.
 fn load_checked(
     d: &[u8],
-    checked: FileCheck,
+    checked: Result<Layout, Refusal>,
     entries: &[u64],
     patches: &[u8],
     rewrite: bool,
@@ -106,7 +106,7 @@ fn load_checked(
     maps: &mut [u64],
     relocations: &mut [u64],
     bytes: &mut [u8],
-) -> Answer
+) -> Result<Summary, Refusal>
     requires { Checks d.now checked }
     ensures { outcome result (lent sections.new programs.new functions.new maps.new relocations.new bytes.new)
         ≡ load_elf_of d.now entries.now patches.now rewrite
@@ -157,7 +157,7 @@ pub fn load_elf(
     maps: &mut [u64],
     relocations: &mut [u64],
     bytes: &mut [u8],
-) -> Answer
+) -> Result<Summary, Refusal>
     ensures { outcome result (lent sections.new programs.new functions.new maps.new relocations.new bytes.new)
         ≡ load_elf_of d.now entries.now patches.now rewrite
         (room_in

@@ -8,7 +8,7 @@ ghost use Rattle.model.specs.FunctionNumbers.{flat, flat_of, flat_room};
 use elf::open;
 use elf_tables::check;
 use load_numbers::load_flat_opened;
-use model::Answer;
+use model::{Refusal, Summary};
 
 pub fn load_flat_elf(
     d: &[u8],
@@ -21,7 +21,7 @@ pub fn load_flat_elf(
     maps: &mut [u64],
     relocations: &mut [u64],
     bytes: &mut [u8],
-) -> Answer
+) -> Result<Summary, Refusal>
     ensures { flat result sections.new programs.new functions.new maps.new relocations.new bytes.new
         ≡ flat_of (length functions.old)
         (load_elf_of d.now entries.now patches.now rewrite

@@ -8,14 +8,14 @@ ghost use Rattle.elf.specs.Opened.{index_length};
 ghost use Rattle.load_file.specs.Files.{Checks};
 
 use elf::open;
-use elf_layout::FileCheck;
+use elf_layout::Layout;
 use load_opened::load_opened;
-use model::{Answer, Function};
+use model::{Function, Refusal, Summary};
 
 // For an index of at most 512 numbers.
 pub fn load_512(
     d: &[u8],
-    checked: FileCheck,
+    checked: Result<Layout, Refusal>,
     entries: &[u64],
     patches: &[u8],
     rewrite: bool,
@@ -25,7 +25,7 @@ pub fn load_512(
     maps: &mut [u64],
     relocations: &mut [u64],
     bytes: &mut [u8],
-) -> Answer
+) -> Result<Summary, Refusal>
     requires { Checks d.now checked × (index_length checked ≤ 512) }
     ensures { outcome result (lent sections.new programs.new functions.new maps.new relocations.new bytes.new)
         ≡ load_elf_of d.now entries.now patches.now rewrite
@@ -53,7 +53,7 @@ pub fn load_512(
 // For an index of at most 16,384 numbers.
 pub fn load_16384(
     d: &[u8],
-    checked: FileCheck,
+    checked: Result<Layout, Refusal>,
     entries: &[u64],
     patches: &[u8],
     rewrite: bool,
@@ -63,7 +63,7 @@ pub fn load_16384(
     maps: &mut [u64],
     relocations: &mut [u64],
     bytes: &mut [u8],
-) -> Answer
+) -> Result<Summary, Refusal>
     requires { Checks d.now checked × (index_length checked ≤ 16384) }
     ensures { outcome result (lent sections.new programs.new functions.new maps.new relocations.new bytes.new)
         ≡ load_elf_of d.now entries.now patches.now rewrite
@@ -91,7 +91,7 @@ pub fn load_16384(
 // For the index of any file that can be read.
 pub fn load_143360(
     d: &[u8],
-    checked: FileCheck,
+    checked: Result<Layout, Refusal>,
     entries: &[u64],
     patches: &[u8],
     rewrite: bool,
@@ -101,7 +101,7 @@ pub fn load_143360(
     maps: &mut [u64],
     relocations: &mut [u64],
     bytes: &mut [u8],
-) -> Answer
+) -> Result<Summary, Refusal>
     requires { Checks d.now checked }
     ensures { outcome result (lent sections.new programs.new functions.new maps.new relocations.new bytes.new)
         ≡ load_elf_of d.now entries.now patches.now rewrite

@@ -1,8 +1,7 @@
 -- What a load leaves in the lent tables and bytes, but for the function table.
-use Rattle.std.specs.Prelude.{◌≡◌, List, ◌++◌, ℕ, ◌*◌, ◌^◌, ◌<◌, ◌≤◌, length, drop}
+use Rattle.std.specs.Prelude.{◌≡◌, List, ◌++◌, ℕ, ◌*◌, ◌^◌, ◌<◌, ◌≤◌, length, drop, None}
 use Rattle.std.proofs.Math.Path.{refl, sym}
 use Rattle.std.proofs.Common.{ap, ◌∙◌}
-use Rattle.std.proofs.Math.Option.{none}
 use Rattle.object_view.specs.declared.View.{View}
 use Rattle.model.specs.declared.Summary.{Summary}
 use Rattle.model.specs.Catalogue.{Catalogue}
@@ -28,7 +27,7 @@ relocations-filled c t l n e h f =
 -- what filling needs: nothing refuses the object, all of it fits, and its relocations' rows are stored
 pub record Fillable (d t : List ℕ) (v : View) (plan : Plan) (s p f m sections programs maps relocations bytes : List ℕ) : Type 0 where
   pub readable : Readable d t v
-  pub ok : object_refusal (object_in d t v) ≡ none
+  pub ok : object_refusal (object_in d t v) ≡ None
   pub held : Held d t v plan.counts s p f m
   pub at : At (catalogue d t v) plan.places
   pub count : plan.relocations ≡ length (catalogue d t v).relocations

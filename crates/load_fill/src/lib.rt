@@ -6,9 +6,8 @@ ghost use Rattle.model.specs.Lent.{bytes_of, image_of, filled};
 ghost use Rattle.bytes_layout.specs.Parts.{catalogue};
 ghost use Rattle.load_fill.specs.Fills.{Fillable, summary_by};
 
-use lists::{zero8, zero64};
 use load_decision::Plan;
-use load_image::{clear_from, fill_bytes, fill_maps, fill_programs, fill_sections};
+use load_image::{fill_bytes, fill_maps, fill_programs, fill_sections};
 use model::Summary;
 use object_view::View;
 
@@ -25,11 +24,11 @@ pub fn clear(
         × (relocations.new ≡ replicate (length relocations.old) 0)
         × (bytes.new ≡ replicate (length bytes.old) 0) }
 {
-    zero64(sections);
-    zero64(programs);
-    zero64(maps);
-    zero64(relocations);
-    zero8(bytes);
+    sections.fill(0);
+    programs.fill(0);
+    maps.fill(0);
+    relocations.fill(0);
+    bytes.fill(0);
 }
 
 // The record numbers of sections, programs, functions and maps are s, p, f and m.
@@ -60,31 +59,24 @@ pub fn fill(
     fill_sections(d, t, v, s, n.sections, places, sections);
     fill_programs(d, t, v, p, n.programs, places, programs);
     fill_maps(d, t, v, m, n.maps, places, maps);
-    clear_from(relocations, plan.relocations * 4);
+    relocations[plan.relocations * 4..].fill(0);
     fill_bytes(d, t, v, n, places, s, p, f, m, bytes);
 }
 
-fn wide(x: usize) -> u64
-    ensures { result ≡ x }
-{
-    x as u64
-}
-
+#[tactic(auto, unfolding(crate::specs::Fills::summary_by))]
 pub fn summary(v: View, plan: Plan) -> Summary
     ensures { result ≡ summary_by v plan }
 {
-    let order = v.order;
     let counts = plan.counts;
-    let version = counts.version;
     Summary {
-        order,
-        version,
-        license: wide(plan.places.sections),
-        sections: wide(counts.sections),
-        programs: wide(counts.programs),
-        functions: wide(counts.functions),
-        maps: wide(counts.maps),
-        relocations: wide(plan.relocations),
-        bytes: wide(plan.places.end),
+        order: v.order,
+        version: counts.version,
+        license: plan.places.sections as u64,
+        sections: counts.sections as u64,
+        programs: counts.programs as u64,
+        functions: counts.functions as u64,
+        maps: counts.maps as u64,
+        relocations: plan.relocations as u64,
+        bytes: plan.places.end as u64,
     }
 }

@@ -1,6 +1,5 @@
 -- The bytes of a catalogue as parts: patching replaces the maps' own, rewriting the code.
-use Rattle.std.proofs.Math.Option.{none}
-use Rattle.std.specs.Prelude.{◌≡◌, Bool, true, false, ℕ, ◌+◌, ◌-◌, ◌<◌, ◌≤◌, take, drop, replicate}
+use Rattle.std.specs.Prelude.{◌≡◌, Bool, true, false, ℕ, ◌+◌, ◌-◌, ◌<◌, ◌≤◌, take, drop, replicate, None}
 use Rattle.std.proofs.Math.Path.{refl, sym, ap}
 use Rattle.std.proofs.Common.{◌∙◌, arith, le_refl, take_at, drop_at, drop-drop}
 use mathlib.Core.List.{List, [], ◌++◌, map, append_assoc}
@@ -177,7 +176,7 @@ untouched o c entries lent out own end e h f =
 
 -- ---- what the numbers in hand say
 
-module _ (d t : List ℕ) (v : View) (r : Readable d t v) (ok : object_refusal (object_in d t v) ≡ none) where
+module _ (d t : List ℕ) (v : View) (r : Readable d t v) (ok : object_refusal (object_in d t v) ≡ None) where
   -- the functions' numbers stand in front of fs: each fits its section, and their code ends where the maps' names begin
   module _ (fs : List ℕ) (n : ℕ) (inside : n ≤ length fs) (front : take n fs ≡ function_numbers d t v) where
     pub front-fit : AllFit d t v fs n

@@ -1,8 +1,7 @@
 // The bytes of a filled catalogue, patched and rewritten.
 #![tactic(auto)]
 
-ghost use Rattle.std.specs.Prelude.{◌≡◌, ◌++◌, ◌+◌, ◌-◌, ◌<◌, ◌≤◌, length, take, drop};
-ghost use Rattle.std.proofs.Math.Option.{none};
+ghost use Rattle.std.specs.Prelude.{◌≡◌, ◌++◌, ◌+◌, ◌-◌, ◌<◌, ◌≤◌, length, take, drop, None};
 ghost use Rattle.model.specs.Bytes.{each, part};
 ghost use Rattle.model.specs.Lent.{map_own, bytes_of, filled};
 ghost use Rattle.model.specs.Patching.{patched, finish};
@@ -39,7 +38,7 @@ fn patch_bytes(
     out: &mut [u8],
 )
     requires { (0 < length entries.now → PatchReady d.now t.now v entries.now symbols.now by.now rows.now own)
-        × (patch_refusal (object_in d.now t.now v) (catalogue d.now t.now v).maps 1 (patches_of entries.now patches.now) ≡ none)
+        × (patch_refusal (object_in d.now t.now v) (catalogue d.now t.now v).maps 1 (patches_of entries.now patches.now) ≡ None)
         × (own ≤ end)
         × (end ≤ length out.old)
         × (part out.old own (end - own) ≡ each map_own (catalogue d.now t.now v).maps) }
@@ -70,12 +69,10 @@ fn rewrite_functions(
     ensures { Rewritten (code_at d.now t.now v) (take n functions.now) start out.old out.new }
 {
     let mut at = start;
-    let mut k: usize = 0;
-    while k < n {
+    for k in 0..n {
         let end = at + code_length(d, t, v, functions[k]);
         sanitize_code(&mut out[at..end], true);
         at = end;
-        k += 1;
     }
 }
 
@@ -120,8 +117,8 @@ pub fn finish_bytes(
     out: &mut [u8],
 )
     requires { Readable d.now t.now v
-        × (object_refusal (object_in d.now t.now v) ≡ none)
-        × (patch_refusal (object_in d.now t.now v) (catalogue d.now t.now v).maps 1 (patches_of entries.now patches.now) ≡ none)
+        × (object_refusal (object_in d.now t.now v) ≡ None)
+        × (patch_refusal (object_in d.now t.now v) (catalogue d.now t.now v).maps 1 (patches_of entries.now patches.now) ≡ None)
         × At (catalogue d.now t.now v) places
         × (n ≤ length functions.now)
         × (take n functions.now ≡ function_numbers d.now t.now v)

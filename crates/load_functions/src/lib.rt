@@ -7,15 +7,15 @@ ghost use Rattle.model.specs.Lent.{lent, room_in, outcome, outcome_in};
 ghost use Rattle.load_object.specs.Done.{Open, symbol_count, verdict_in};
 
 use load_core::load_core;
-use model::{Answer, Function};
-use object_view::Opened;
+use model::{Function, Refusal, Summary};
+use object_view::View;
 use rows_functions::fill;
 
 // For at most 64 symbols.
 pub fn load_64(
     d: &[u8],
     t: &[u32],
-    opened: Opened,
+    opened: Result<View, Refusal>,
     entries: &[u64],
     patches: &[u8],
     rewrite: bool,
@@ -25,7 +25,7 @@ pub fn load_64(
     maps: &mut [u64],
     relocations: &mut [u64],
     bytes: &mut [u8],
-) -> Answer
+) -> Result<Summary, Refusal>
     requires { Open d.now t.now opened × (symbol_count opened ≤ 64) }
     ensures { outcome result (lent sections.new programs.new functions.new maps.new relocations.new bytes.new)
         ≡ outcome_in (room_in
@@ -57,7 +57,7 @@ pub fn load_64(
 pub fn load_2048(
     d: &[u8],
     t: &[u32],
-    opened: Opened,
+    opened: Result<View, Refusal>,
     entries: &[u64],
     patches: &[u8],
     rewrite: bool,
@@ -67,7 +67,7 @@ pub fn load_2048(
     maps: &mut [u64],
     relocations: &mut [u64],
     bytes: &mut [u8],
-) -> Answer
+) -> Result<Summary, Refusal>
     requires { Open d.now t.now opened × (symbol_count opened ≤ 2048) }
     ensures { outcome result (lent sections.new programs.new functions.new maps.new relocations.new bytes.new)
         ≡ outcome_in (room_in
@@ -99,7 +99,7 @@ pub fn load_2048(
 pub fn load_65536(
     d: &[u8],
     t: &[u32],
-    opened: Opened,
+    opened: Result<View, Refusal>,
     entries: &[u64],
     patches: &[u8],
     rewrite: bool,
@@ -109,7 +109,7 @@ pub fn load_65536(
     maps: &mut [u64],
     relocations: &mut [u64],
     bytes: &mut [u8],
-) -> Answer
+) -> Result<Summary, Refusal>
     requires { Open d.now t.now opened }
     ensures { outcome result (lent sections.new programs.new functions.new maps.new relocations.new bytes.new)
         ≡ outcome_in (room_in

@@ -1,9 +1,8 @@
 -- The rows of the lent tables, by the numbers of the tables in hand.
-use Rattle.std.specs.Prelude.{◌≡◌, refl, ℕ, suc, ◌+◌, ◌*◌, ◌<◌, ◌≤◌, length, get_or, take, drop}
+use Rattle.std.specs.Prelude.{◌≡◌, refl, ℕ, suc, ◌+◌, ◌*◌, ◌<◌, ◌≤◌, length, get_or, take, drop, None}
 use Rattle.std.proofs.Math.Path.{sym, ap}
 use Rattle.std.proofs.Common.{◌∙◌, length-take-le}
 use mathlib.Core.List.{List, [], ◌∷◌, ◌++◌, map}
-use Rattle.std.proofs.Math.Option.{none}
 use Rattle.std.proofs.lemmas.List.{length-map}
 use Rattle.object_view.specs.declared.View.{View}
 use Rattle.model.specs.Catalogue.{SectionEntry, Program, Map, Relocation, Catalogue}
@@ -80,7 +79,7 @@ module _ (d t : List ℕ) (v : View) where
       unfolding image_of
       rows-of-sections = ap (λ (xs : List SectionEntry). joined (placed section_name nothing section_row (sections_at c) 0 xs)) (ap (map (section_entry_at d t v)) e ∙ sym (sections-by d t v))
 
-    module _ (r : Readable d t v) (ok : object_refusal (object_in d t v) ≡ none) where
+    module _ (r : Readable d t v) (ok : object_refusal (object_in d t v) ≡ None) where
       module _ (e : take n order ≡ program_numbers d t v) where
         pub count-programs : length c.programs ≡ n
         count-programs = counted (program_by_number d t v) c.programs (program_numbers d t v) e (programs-by d t v r (named d t v ok))
@@ -106,7 +105,7 @@ module _ (d t : List ℕ) (v : View) where
         unfolding image_of
         rows-of-maps = ap (λ (xs : List Map). joined (placed map_name map_own map_row (maps_at c) (own_start c) xs)) maps-are
 
-  module _ (r : Readable d t v) (ok : object_refusal (object_in d t v) ≡ none) where
+  module _ (r : Readable d t v) (ok : object_refusal (object_in d t v) ≡ None) where
     pub relocations-are : rows (relocations_from d t v) v.sections ≡ c.relocations
     relocations-are = sym (relocations-by d t v r (targeted d t v ok))
 
@@ -130,7 +129,7 @@ module _ (d t : List ℕ) (v : View) (n : ℕ) (order : List ℕ) (in_order : n 
       (ap (λ (a : ℕ). joined (placed section_name nothing section_row a 0 (map (section_entry_at d t v) (take n order)))) f ∙ rows-of-sections d t v n order in_order e)
       (long-sections k ∙ ap (λ (m : ℕ). m * 4) (count-sections d t v n order in_order e)) room
 
-  module _ (r : Readable d t v) (ok : object_refusal (object_in d t v) ≡ none) where
+  module _ (r : Readable d t v) (ok : object_refusal (object_in d t v) ≡ None) where
     pub programs-filled : (at : ℕ) → take n order ≡ program_numbers d t v → at ≡ programs_at k → n * 7 ≤ length lent
         → cleared_from (joined (placed program_name nothing program_row at 0 (map (program_by_number d t v) (take n order))) ++ drop (n * 7) lent) (n * 7) ≡ filled 0 (length lent) (image_of k).programs
     programs-filled at e f room =

@@ -1,8 +1,7 @@
 // The lent tables and bytes of an accepted catalogue: what is in them, and zeros behind.
 #![tactic(auto)]
 
-ghost use Rattle.std.specs.Prelude.{◌≡◌, ◌*◌, ◌≤◌, length, take};
-ghost use Rattle.std.proofs.Math.Option.{none};
+ghost use Rattle.std.specs.Prelude.{◌≡◌, ◌*◌, ◌≤◌, length, take, None};
 ghost use Rattle.model.specs.Lent.{filled, bytes_of, image_of};
 ghost use Rattle.model.specs.Refusals.{object_refusal};
 ghost use Rattle.object.specs.View.{object_in};
@@ -10,23 +9,13 @@ ghost use Rattle.catalogue_numbers.specs.Numbers.{section_numbers, program_numbe
 ghost use Rattle.records.specs.Readable.{Readable};
 ghost use Rattle.bytes_layout.specs.Held.{Held, At};
 ghost use Rattle.bytes_layout.specs.Parts.{catalogue};
-ghost use Rattle.load_image.specs.Filled.{cleared_from};
 
 use bytes_layout::Places;
-use lists::{zero8, zero64};
 use object_view::View;
 use parse_sections::Counts;
 use rows_maps::put_map_rows;
 use rows_programs::put_program_rows;
 use rows_sections::put_section_rows;
-
-// What stands from n on becomes zero.
-pub fn clear_from(t: &mut [u64], n: usize)
-    requires { n ≤ length t.old }
-    ensures { t.new ≡ cleared_from t.old n }
-{
-    zero64(&mut t[n..]);
-}
 
 pub fn fill_sections(
     d: &[u8],
@@ -45,7 +34,7 @@ pub fn fill_sections(
     ensures { out.new ≡ filled 0 (length out.old) (image_of (catalogue d.now t.now v)).sections }
 {
     put_section_rows(d, t, v, numbers, n, places.sections, out);
-    clear_from(out, n * 4);
+    out[n * 4..].fill(0);
 }
 
 pub fn fill_programs(
@@ -58,7 +47,7 @@ pub fn fill_programs(
     out: &mut [u64],
 )
     requires { Readable d.now t.now v
-        × (object_refusal (object_in d.now t.now v) ≡ none)
+        × (object_refusal (object_in d.now t.now v) ≡ None)
         × (n ≤ length numbers.now)
         × (n ≤ 69632)
         × (take n numbers.now ≡ program_numbers d.now t.now v)
@@ -67,7 +56,7 @@ pub fn fill_programs(
     ensures { out.new ≡ filled 0 (length out.old) (image_of (catalogue d.now t.now v)).programs }
 {
     put_program_rows(d, t, v, numbers, n, places.programs, out);
-    clear_from(out, n * 7);
+    out[n * 7..].fill(0);
 }
 
 pub fn fill_maps(
@@ -80,7 +69,7 @@ pub fn fill_maps(
     out: &mut [u64],
 )
     requires { Readable d.now t.now v
-        × (object_refusal (object_in d.now t.now v) ≡ none)
+        × (object_refusal (object_in d.now t.now v) ≡ None)
         × (n ≤ length numbers.now)
         × (n ≤ 69632)
         × (take n numbers.now ≡ map_numbers d.now t.now v)
@@ -89,14 +78,7 @@ pub fn fill_maps(
     ensures { out.new ≡ filled 0 (length out.old) (image_of (catalogue d.now t.now v)).maps }
 {
     put_map_rows(d, t, v, numbers, n, places.maps, places.own, out);
-    clear_from(out, n * 27);
-}
-
-fn clear_bytes_from(t: &mut [u8], n: usize)
-    requires { n ≤ length t.old }
-    ensures { t.new ≡ cleared_from t.old n }
-{
-    zero8(&mut t[n..]);
+    out[n * 27..].fill(0);
 }
 
 pub fn fill_bytes(
@@ -112,12 +94,12 @@ pub fn fill_bytes(
     out: &mut [u8],
 )
     requires { Readable d.now t.now v
-        × (object_refusal (object_in d.now t.now v) ≡ none)
+        × (object_refusal (object_in d.now t.now v) ≡ None)
         × Held d.now t.now v n sections.now programs.now functions.now maps.now
         × At (catalogue d.now t.now v) places
         × (length (bytes_of (catalogue d.now t.now v)) ≤ length out.old) }
     ensures { out.new ≡ filled 0 (length out.old) (bytes_of (catalogue d.now t.now v)) }
 {
     bytes_layout::put(d, t, v, n, sections, programs, functions, maps, out);
-    clear_bytes_from(out, places.end);
+    out[places.end..].fill(0);
 }

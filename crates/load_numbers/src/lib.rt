@@ -8,15 +8,15 @@ ghost use Rattle.load_object.specs.Done.{Open, verdict_in};
 
 use deposit::open;
 use load_core::load_core;
-use model::Answer;
-use object_view::Opened;
+use model::{Refusal, Summary};
+use object_view::View;
 use rows_numbers::fill_rows;
 
 // The load of what was opened.
 pub fn load_flat_opened(
     d: &[u8],
     t: &[u32],
-    opened: Opened,
+    opened: Result<View, Refusal>,
     entries: &[u64],
     patches: &[u8],
     rewrite: bool,
@@ -26,7 +26,7 @@ pub fn load_flat_opened(
     maps: &mut [u64],
     relocations: &mut [u64],
     bytes: &mut [u8],
-) -> Answer
+) -> Result<Summary, Refusal>
     requires { Open d.now t.now opened }
     ensures { flat result sections.new programs.new functions.new maps.new relocations.new bytes.new
         ≡ flat_of (length functions.old)
@@ -70,7 +70,7 @@ pub fn load_flat(
     maps: &mut [u64],
     relocations: &mut [u64],
     bytes: &mut [u8],
-) -> Answer
+) -> Result<Summary, Refusal>
     ensures { flat result sections.new programs.new functions.new maps.new relocations.new bytes.new
         ≡ flat_of (length functions.old)
         (load_of d.now entries.now patches.now rewrite

@@ -1,12 +1,11 @@
 -- What a load leaves of an object, by what was decided.
-use Rattle.std.specs.Prelude.{◌≡◌, Bool, List, ◌++◌, map, ℕ, ◌+◌, ◌*◌, ◌^◌, ◌<◌, ◌≤◌, min, take, drop, replicate}
+use Rattle.model.specs.declared.Summary.{Summary}
+use Rattle.std.specs.Prelude.{◌≡◌, Bool, List, ◌++◌, map, ℕ, ◌+◌, ◌*◌, ◌^◌, ◌<◌, ◌≤◌, min, take, drop, replicate, Err, None, Ok, Option, Result, Some}
 use Rattle.std.proofs.Math.Path.{refl, ap}
 use Rattle.std.proofs.Common.{sym, ◌∙◌, arith, length-take, drop_at}
-use Rattle.std.proofs.Math.Option.{Option, none, some}
 use Rattle.std.proofs.Math.ListN.{length, length-append}
 use Rattle.std.proofs.lemmas.List.{take-append-le}
 use Rattle.model.specs.declared.Endianness.{Endianness}
-use Rattle.model.specs.declared.Answer.{Answer}
 use Rattle.model.specs.declared.Function.{Function}
 use Rattle.model.specs.declared.Refusal.{Refusal}
 use Rattle.model.specs.Bytes.{each}
@@ -24,7 +23,6 @@ use Rattle.bytes_layout.specs.Held.{Held, parts-inside}
 use Rattle.bytes_layout.specs.Parts.{catalogue}
 use Rattle.load_image.specs.Tables.{long-relocations, count-sections, count-programs, count-functions, count-maps, rows-of-maps}
 use Rattle.parse_sections.specs.declared.Counts.{Counts}
-use Rattle.parse_sections.specs.declared.Tables.{Tables}
 use Rattle.parse_tables.specs.Parsed
 use Rattle.parse_tables.specs.Parsed.{tables_of, counts_of}
 use Rattle.load_decision.specs.declared.Plan.{Plan}
@@ -60,12 +58,12 @@ abbrev pub no_rows : Rows
 no_rows = record { view = no_view; count = 0; name = 0; code = 0 }
 
 abbrev pub refused_by : Refusal → Loaded
-refused_by q = record { answer = Answer.Refused q; rows = no_rows }
+refused_by q = record { answer = Err q; rows = no_rows }
 
 abbrev pub accepted_by : View → Plan → Loaded
 accepted_by v plan =
     record {
-      answer = Answer.Accepted (summary_by v plan);
+      answer = Ok (summary_by v plan);
       rows = record { view = v; count = plan.counts.functions; name = plan.places.functions; code = plan.places.code };
     }
 
@@ -107,7 +105,7 @@ scratch-of v s p f m a b i j k g h ls lp lm la lb lf few w =
     }
 
 -- an outcome by its parts
-pub outcome-parts : (o : Outcome) (r : Answer) (s p : List ℕ) (f : List Function) (m l b : List ℕ) → r ≡ o.reply → s ≡ o.lent.sections → p ≡ o.lent.programs
+pub outcome-parts : (o : Outcome) (r : Result Summary Refusal) (s p : List ℕ) (f : List Function) (m l b : List ℕ) → r ≡ o.reply → s ≡ o.lent.sections → p ≡ o.lent.programs
     → f ≡ o.lent.functions → m ≡ o.lent.maps → l ≡ o.lent.relocations → b ≡ o.lent.bytes → outcome r (lent s p f m l b) ≡ o
 outcome-parts o r s p f m l b e₁ e₂ e₃ e₄ e₅ e₆ e₇ =
     λ i. record { reply = e₁ i; lent = record { sections = e₂ i; programs = e₃ i; functions = e₄ i; maps = e₅ i; relocations = e₆ i; bytes = e₇ i } }
@@ -120,7 +118,7 @@ module _ (d t : List ℕ) (room : Room) (s p m l b order : List ℕ) where
   unfolding zeroed
   refused-loads q o r e f k₁ k₂ k₃ k₄ k₅ rest =
       rw (e, f) (
-        outcome-parts (refused_outcome room q) (Answer.Refused q) s p _ m l b refl k₁ k₂ (rows-zero d t (order ++ rest) no_rows room.functions refl) k₃ k₄ k₅,
+        outcome-parts (refused_outcome room q) (Err q) s p _ m l b refl k₁ k₂ (rows-zero d t (order ++ rest) no_rows room.functions refl) k₃ k₄ k₅,
         λ l. absurd (omega (arith, l)),
       )
 
@@ -153,22 +151,22 @@ module _ (d t : List ℕ) (v : View) (s p f m : List ℕ) where
         version = refl;
       }
 
-  pub numbers-refused : (q : Refusal) → Parsed.Parsed d t v (Tables.Refused q) s p f m → object_refusal (object_in d t v) ≡ some q
+  pub numbers-refused : (q : Refusal) → Parsed.Parsed d t v (Err q) s p f m → object_refusal (object_in d t v) ≡ Some q
   numbers-refused q made = go (object_refusal (object_in d t v)) made.answer
     where
-      go : (o : Option Refusal) → Tables.Refused q ≡ tables_of o (counts_of d t v) → o ≡ some q
-      go none e = let z : ◌≡◌ {A = ℕ} 0 1 = cc in absurd (omega arith)
-      go (some x) e = cc
+      go : (o : Option Refusal) → Err q ≡ tables_of o (counts_of d t v) → o ≡ Some q
+      go None e = let z : ◌≡◌ {A = ℕ} 0 1 = cc in absurd (omega arith)
+      go (Some x) e = cc
 
-  numbers-fine : (n : Counts) → Parsed.Parsed d t v (Tables.Numbers n) s p f m → (object_refusal (object_in d t v) ≡ none) × (n ≡ counts_of d t v)
+  numbers-fine : (n : Counts) → Parsed.Parsed d t v (Ok n) s p f m → (object_refusal (object_in d t v) ≡ None) × (n ≡ counts_of d t v)
   numbers-fine n made = go (object_refusal (object_in d t v)) made.answer
     where
-      go : (o : Option Refusal) → Tables.Numbers n ≡ tables_of o (counts_of d t v) → (o ≡ none) × (n ≡ counts_of d t v)
-      go none e = (refl, cc)
-      go (some x) e = let z : ◌≡◌ {A = ℕ} 0 1 = cc in absurd (omega arith)
+      go : (o : Option Refusal) → Ok n ≡ tables_of o (counts_of d t v) → (o ≡ None) × (n ≡ counts_of d t v)
+      go None e = (refl, cc)
+      go (Some x) e = let z : ◌≡◌ {A = ℕ} 0 1 = cc in absurd (omega arith)
 
-  pub numbers-held : (n : Counts) → Parsed.Parsed d t v (Tables.Numbers n) s p f m → length s ≤ 69632 → length p ≤ 69632 → length f ≤ 65536 → length m ≤ 69632
-      → (object_refusal (object_in d t v) ≡ none) × Held d t v n s p f m
+  pub numbers-held : (n : Counts) → Parsed.Parsed d t v (Ok n) s p f m → length s ≤ 69632 → length p ≤ 69632 → length f ≤ 65536 → length m ≤ 69632
+      → (object_refusal (object_in d t v) ≡ None) × Held d t v n s p f m
   numbers-held n made a b c e = let k = numbers-fine n made in (k.0, rw k.1 (held_by (made.numbers k.0) a b c e))
 
 -- ---- an accepted object
@@ -178,7 +176,7 @@ unfolding image_of
 image-of c a b e f = λ i. placed function_name function_code function_row (e i) (f i) c.functions
 
 -- for patching: symbols by name, maps by section, and their rows
-pub patch-ready : (d t : List ℕ) (v : View) → Readable d t v → object_refusal (object_in d t v) ≡ none → (entries maps order by rows : List ℕ) (n own : ℕ)
+pub patch-ready : (d t : List ℕ) (v : View) → Readable d t v → object_refusal (object_in d t v) ≡ None → (entries maps order by rows : List ℕ) (n own : ℕ)
     → take n maps ≡ map_numbers d t v → n ≤ length maps → own ≡ own_start (catalogue d t v) → rows ≡ filled 0 (length rows) (image_of (catalogue d t v)).maps
     → ReadyToPatch d t v entries maps n order by → 0 < length entries → PatchReady d t v entries order by rows own
 patch-ready d t v r ok entries maps order by rows n own e w f g k p =
@@ -245,7 +243,7 @@ module _ (d t : List ℕ) (v : View) (room : Room) (plan : Plan) (s p f m : List
       image-functions : placed function_name function_code function_row plan.places.functions plan.places.code (catalogue d t v).functions ≡ (image_of (catalogue d t v)).functions
       image-functions = image-of (catalogue d t v) plan.places.functions plan.places.code g.at.functions g.at.code
 
-  pub accepted-loads : (ps : List Patch) → patch_refusal (object_in d t v) (catalogue d t v).maps 1 ps ≡ none → (on : Bool) (s₂ p₂ m₂ l₂ b₂ : List ℕ) (r : Loaded) → r ≡ accepted_by v plan
+  pub accepted-loads : (ps : List Patch) → patch_refusal (object_in d t v) (catalogue d t v).maps 1 ps ≡ None → (on : Bool) (s₂ p₂ m₂ l₂ b₂ : List ℕ) (r : Loaded) → r ≡ accepted_by v plan
       → s₂ ≡ filled 0 room.sections (image_of (catalogue d t v)).sections → p₂ ≡ filled 0 room.programs (image_of (catalogue d t v)).programs
       → m₂ ≡ filled 0 room.maps (image_of (catalogue d t v)).maps → l₂ ≡ filled 0 room.relocations (image_of (catalogue d t v)).relocations
       → b₂ ≡ filled 0 room.bytes (bytes_of (finish (object_in d t v) ps on (catalogue d t v)))
@@ -253,6 +251,6 @@ module _ (d t : List ℕ) (v : View) (room : Room) (plan : Plan) (s p f m : List
   unfolding filled_to
   accepted-loads ps fine on s₂ p₂ m₂ l₂ b₂ r e k₁ k₂ k₃ k₄ k₅ rest =
       rw (goes room (object_in d t v) ps g.ok fine g.fit on, e) (
-        outcome-parts _ _ s₂ p₂ _ m₂ l₂ b₂ (ap (λ x. Answer.Accepted x) (summary-is d t v room plan s p f m readable g)) k₁ k₂ (rows_of rest) k₃ k₄ k₅,
+        outcome-parts _ _ s₂ p₂ _ m₂ l₂ b₂ (ap (λ x. Ok x) (summary-is d t v room plan s p f m readable g)) k₁ k₂ (rows_of rest) k₃ k₄ k₅,
         λ l. readable,
       )

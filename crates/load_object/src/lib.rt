@@ -1,8 +1,7 @@
 // An opened object loaded, but for the function table: what refuses it is decided, the lent tables and bytes are filled, then the bytes are finished.
 #![tactic(auto)]
 
-ghost use Rattle.std.specs.Prelude.{◌≡◌, ◌≤◌, length, replicate};
-ghost use Rattle.std.proofs.Math.Option.{none};
+ghost use Rattle.std.specs.Prelude.{◌≡◌, ◌≤◌, length, replicate, None};
 ghost use Rattle.model.specs.Lent.{bytes_of, lent_room, filled, image_of, outcome_in};
 ghost use Rattle.model.specs.PatchList.{patches_of};
 ghost use Rattle.model.specs.Patching.{finish, load};
@@ -16,20 +15,19 @@ ghost use Rattle.load_fill.specs.Fills.{Fillable};
 ghost use Rattle.load_object.specs.Core.{no_view, refused_by, accepted_by, Scratch};
 ghost use Rattle.load_object.specs.Done.{FrontDone};
 
-use load_decision::{Decision, Plan, decide_patches, decide_room};
+use load_decision::{Plan, decide_patches, decide_room};
 use load_fill::{clear, fill, summary};
 use load_finish::finish_bytes;
-use model::{Answer, Endianness, Refusal, Room};
-use object::Checked;
+use model::{Endianness, Refusal, Room, Summary};
 use object_view::{Form, Places, Strings, View};
-use parse_sections::{Counts, Tables};
+use parse_sections::Counts;
 use parse_tables::parse;
 use rows_functions::Rows;
 use stream::size;
 
 #[derive(Clone, Copy)]
 pub struct Loaded {
-    pub answer: Answer,
+    pub answer: Result<Summary, Refusal>,
     pub rows: Rows,
 }
 
@@ -62,7 +60,7 @@ fn refused(r: Refusal) -> Loaded
 {
     let view = no_view();
     Loaded {
-        answer: Answer::Refused(r),
+        answer: Err(r),
         rows: Rows {
             view,
             count: 0,
@@ -82,7 +80,7 @@ fn accepted(v: View, plan: Plan) -> Loaded
     ensures { result ≡ accepted_by v plan }
 {
     Loaded {
-        answer: Answer::Accepted(summary(v, plan)),
+        answer: Ok(summary(v, plan)),
         rows: Rows {
             view: v,
             count: plan.counts.functions,
@@ -134,7 +132,7 @@ fn fill_and_finish(
     bytes: &mut [u8],
 ) -> Loaded
     requires { Fillable d.now t.now v plan s.now p.now f.now m.now sections.old programs.old maps.old relocations.old bytes.old
-        × (patch_refusal (object_in d.now t.now v) (catalogue d.now t.now v).maps 1 (patches_of entries.now patches.now) ≡ none)
+        × (patch_refusal (object_in d.now t.now v) (catalogue d.now t.now v).maps 1 (patches_of entries.now patches.now) ≡ None)
         × ReadyToPatch d.now t.now v entries.now m.now plan.counts.maps symbols.now by.now }
     ensures { (result ≡ accepted_by v plan)
         × (sections.new ≡ filled 0 (length sections.old) (image_of (catalogue d.now t.now v)).sections)
@@ -202,7 +200,7 @@ fn load_tables(
     b: &mut [u32],
 ) -> Loaded
     requires { Readable d.now t.now v
-        × (object_refusal (object_in d.now t.now v) ≡ none)
+        × (object_refusal (object_in d.now t.now v) ≡ None)
         × Held d.now t.now v n s.now p.now f.now m.now
         × (v.symbols ≤ length a.old)
         × (v.relocations ≤ length a.old)
@@ -227,12 +225,12 @@ fn load_tables(
     let decision = decide_room(d, t, v, room, n, s, p, f, m, a, b, relocations);
     let y = size(v.symbols);
     let checked = decide_patches(d, t, v, entries, patches, m, n.maps, &mut a[0..y], b);
-    if let Checked::Refused(r) = checked {
+    if let Err(r) = checked {
         return refuse(r, sections, programs, maps, relocations, bytes);
     }
     match decision {
-        Decision::Refused(r) => refuse(r, sections, programs, maps, relocations, bytes),
-        Decision::Accepted(plan) => {
+        Err(r) => refuse(r, sections, programs, maps, relocations, bytes),
+        Ok(plan) => {
             fill_and_finish(
                 d,
                 t,
@@ -287,8 +285,8 @@ pub fn load_object(
         result sections.new programs.new maps.new relocations.new bytes.new f.new }
 {
     match parse(d, t, v, s, p, f, m, a, b) {
-        Tables::Refused(r) => refuse(r, sections, programs, maps, relocations, bytes),
-        Tables::Numbers(n) => {
+        Err(r) => refuse(r, sections, programs, maps, relocations, bytes),
+        Ok(n) => {
             load_tables(
                 d,
                 t,

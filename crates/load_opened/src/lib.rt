@@ -6,24 +6,24 @@ ghost use Rattle.model.specs.Lent.{lent, room_in, outcome, outcome_in};
 ghost use Rattle.load_object.specs.Done.{Open, symbol_count, verdict_in};
 
 use load_functions::{load_64, load_2048, load_65536};
-use model::{Answer, Function};
-use object_view::Opened;
+use model::{Function, Refusal, Summary};
+use object_view::View;
 
-fn is_small(opened: Opened) -> bool
+fn is_small(opened: Result<View, Refusal>) -> bool
     ensures { result ≡ leb (symbol_count opened) 64 }
 {
     match opened {
-        Opened::Refused(_) => true,
-        Opened::View(v) => v.symbols <= 64,
+        Err(_) => true,
+        Ok(v) => v.symbols <= 64,
     }
 }
 
-fn is_medium(opened: Opened) -> bool
+fn is_medium(opened: Result<View, Refusal>) -> bool
     ensures { result ≡ leb (symbol_count opened) 2048 }
 {
     match opened {
-        Opened::Refused(_) => true,
-        Opened::View(v) => v.symbols <= 2048,
+        Err(_) => true,
+        Ok(v) => v.symbols <= 2048,
     }
 }
 
@@ -33,7 +33,7 @@ fn load_more(
     tries: u32,
     d: &[u8],
     t: &[u32],
-    opened: Opened,
+    opened: Result<View, Refusal>,
     entries: &[u64],
     patches: &[u8],
     rewrite: bool,
@@ -43,7 +43,7 @@ fn load_more(
     maps: &mut [u64],
     relocations: &mut [u64],
     bytes: &mut [u8],
-) -> Answer
+) -> Result<Summary, Refusal>
     requires { Open d.now t.now opened }
     ensures { outcome result (lent sections.new programs.new functions.new maps.new relocations.new bytes.new)
         ≡ outcome_in (room_in
@@ -103,7 +103,7 @@ fn load_more(
 pub fn load_opened(
     d: &[u8],
     t: &[u32],
-    opened: Opened,
+    opened: Result<View, Refusal>,
     entries: &[u64],
     patches: &[u8],
     rewrite: bool,
@@ -113,7 +113,7 @@ pub fn load_opened(
     maps: &mut [u64],
     relocations: &mut [u64],
     bytes: &mut [u8],
-) -> Answer
+) -> Result<Summary, Refusal>
     requires { Open d.now t.now opened }
     ensures { outcome result (lent sections.new programs.new functions.new maps.new relocations.new bytes.new)
         ≡ outcome_in (room_in

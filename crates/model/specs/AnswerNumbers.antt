@@ -1,8 +1,6 @@
 -- The answer of a load as the numbers of one struct, and what a call from C or Rust leaves behind.
-use Rattle.std.specs.Prelude.{ℕ}
-use Rattle.model.specs.declared.Answer.{Answer}
+use Rattle.std.specs.Prelude.{ℕ, Err, None, Ok, Option, Result, Some}
 use Rattle.model.specs.declared.Endianness.{Endianness}
-use Rattle.model.specs.declared.KernelVersion.{KernelVersion}
 use Rattle.model.specs.declared.LoadAnswer.{LoadAnswer}
 use Rattle.model.specs.declared.Refusal.{Refusal}
 use Rattle.model.specs.declared.Summary.{Summary}
@@ -14,13 +12,13 @@ abbrev pub order_number : Endianness → ℕ
 order_number Endianness.Little = 0
 order_number Endianness.Big = 1
 
-abbrev pub stated_bit : KernelVersion → ℕ
-stated_bit KernelVersion.Any = 0
-stated_bit (KernelVersion.Version n) = 1
+abbrev pub stated_bit : Option ℕ → ℕ
+stated_bit None = 0
+stated_bit (Some n) = 1
 
-abbrev pub stated_version : KernelVersion → ℕ
-stated_version KernelVersion.Any = 0
-stated_version (KernelVersion.Version n) = n
+abbrev pub stated_version : Option ℕ → ℕ
+stated_version None = 0
+stated_version (Some n) = n
 
 -- S102: 'number' is 0: the deposit is accepted
 abbrev pub accepted_answer : Summary → LoadAnswer
@@ -60,9 +58,9 @@ refused_answer r = record {
   bytes = 0;
 }
 
-abbrev pub answer_of : Answer → LoadAnswer
-answer_of (Answer.Accepted s) = accepted_answer s
-answer_of (Answer.Refused r) = refused_answer r
+abbrev pub answer_of : Result Summary Refusal → LoadAnswer
+answer_of (Ok s) = accepted_answer s
+answer_of (Err r) = refused_answer r
 
 -- S100: what such a call leaves behind: its answer as numbers, and what is lent
 pub record Call : Type 0 where

@@ -1,7 +1,6 @@
 -- Paper 1 of document 02, 'Read the object file itself': what is read of an ELF file, and the object that it states. E1 to E35 are the readings in
 -- docs/DECISIONS.md. On files that 25 or 26 refuses (ElfRefusals) the definitions are total and mean nothing.
-use Rattle.std.specs.Prelude.{Bool, cond, ◌&&◌, ◌||◌, not, List, [], ◌∷◌, map, ℕ, zero, suc, ◌+◌, ◌-◌, ◌/◌, ◌%◌, min, eqb, leb, length, take, drop}
-use Rattle.std.proofs.Math.Option.{Option, none, some}
+use Rattle.std.specs.Prelude.{Bool, cond, ◌&&◌, ◌||◌, not, List, [], ◌∷◌, map, ℕ, zero, suc, ◌+◌, ◌-◌, ◌/◌, ◌%◌, min, eqb, leb, length, take, drop, None, Option, Some}
 use Rattle.model.specs.declared.SectionIndex.{SectionIndex}
 use Rattle.model.specs.declared.SymbolIndex.{SymbolIndex}
 use Rattle.model.specs.declared.Endianness.{Endianness}
@@ -126,7 +125,7 @@ string_at strings at = up_to_zero (drop at strings)
 
 -- S113: 'relocation symbol 0 is no symbol', nor is 0xFFFFFFFF (E32)
 abbrev pub file_target : ℕ → Option SymbolIndex
-file_target y = cond (eqb y 0) none (unless_none y (record { 0 = y }))
+file_target y = cond (eqb y 0) None (unless_none y (record { 0 = y }))
 
 -- S113: relocation type 1 has size 64, 10 has 32, others 0 (E31)
 abbrev pub reloc_size : ℕ → ℕ
@@ -167,7 +166,7 @@ kind_by_type t = cond (eqb t 2) SymbolKind.Text (cond (eqb t 1) SymbolKind.Data 
 
 -- S115: 'section 0 or a reserved one is none': from 0xFF00 on (E26)
 abbrev pub symbol_section : ℕ → Option SectionIndex
-symbol_section s = cond (eqb s 0 || leb 65280 s) none (some (record { 0 = s }))
+symbol_section s = cond (eqb s 0 || leb 65280 s) None (Some (record { 0 = s }))
 
 -- S115: 'a definition has one of those types and a section'
 abbrev pub is_definition : ℕ → Option SectionIndex → Bool

@@ -1,6 +1,7 @@
 -- The function table as numbers, and a load that is lent it so.
-use Rattle.std.specs.Prelude.{List, [], ◌∷◌, ℕ, ◌/◌, length}
-use Rattle.model.specs.declared.Answer.{Answer}
+use Rattle.model.specs.declared.Summary.{Summary}
+use Rattle.model.specs.declared.Refusal.{Refusal}
+use Rattle.std.specs.Prelude.{List, [], ◌∷◌, ℕ, ◌/◌, length, Result}
 use Rattle.model.specs.declared.Function.{Function as FunctionRow}
 use Rattle.model.specs.declared.Room.{Room}
 use Rattle.model.specs.Bytes.{each}
@@ -27,7 +28,7 @@ rows_in n = n / 7
 
 -- S104: what such a call leaves behind: its answer, and what each lent list holds
 pub record FlatOutcome : Type 0 where
-  pub reply : Answer
+  pub reply : Result Summary Refusal
   pub sections : List ℕ
   pub programs : List ℕ
   pub functions : List ℕ
@@ -35,7 +36,7 @@ pub record FlatOutcome : Type 0 where
   pub relocations : List ℕ
   pub bytes : List ℕ
 
-abbrev pub flat : Answer → List ℕ → List ℕ → List ℕ → List ℕ → List ℕ → List ℕ → FlatOutcome
+abbrev pub flat : Result Summary Refusal → List ℕ → List ℕ → List ℕ → List ℕ → List ℕ → List ℕ → FlatOutcome
 flat a s p f m r b = record { reply = a; sections = s; programs = p; functions = f; maps = m; relocations = r; bytes = b }
 
 -- S104: that of a load's outcome, its function table as n numbers: the rows, and zeros behind

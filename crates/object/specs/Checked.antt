@@ -1,8 +1,7 @@
 -- What a check answers, by the refusal that the definitions give.
-use Rattle.std.proofs.Math.Option.{Option, none, some}
+use Rattle.std.specs.Prelude.{Err, None, Ok, Option, Result, Some, ⊤}
 use Rattle.model.specs.declared.Refusal.{Refusal}
-use Rattle.object.specs.declared.Checked.{Checked}
 
-abbrev pub checked_of : Option Refusal → Checked
-checked_of none = Checked.Fine
-checked_of (some r) = Checked.Refused r
+abbrev pub checked_of : Option Refusal → Result ⊤ Refusal
+checked_of None = (Ok tt)
+checked_of (Some r) = Err r

@@ -1,6 +1,5 @@
 -- The symbols of one section by number; number 10 by the records; the refusal that a number answered for a symbol stands for.
-use Rattle.std.specs.Prelude.{◌≡◌, refl, Bool, false, ◌||◌, List, [], ◌∷◌, map, ℕ, zero, suc, ◌+◌, ◌<◌, ◌≤◌, ltb, length, get_or}
-use Rattle.std.proofs.Math.Option.{Option, none, some}
+use Rattle.std.specs.Prelude.{◌≡◌, refl, Bool, false, ◌||◌, List, [], ◌∷◌, map, ℕ, ◌+◌, ◌<◌, ◌≤◌, ltb, length, get_or, None, Option, Some}
 use Rattle.std.proofs.Common.{not-suc-le-zero}
 use Rattle.std.proofs.Math.Seq.{slice}
 use Rattle.lists.specs.Tab.{tab}
@@ -53,12 +52,7 @@ module _ (d t : List ℕ) (v : View) where
   unfolding passes section_from
   past-by-record s offset size = rw (length-bytes d (gap_of v) (v.at.bytes + s.bytes.at) s.bytes.length)
 
--- the refusal that a number other than 0 stands for
-abbrev pub fault_of : ℕ → SectionIndex → SymbolIndex → Option Refusal
-fault_of zero s y = none
-fault_of (suc n) s y = some (record { number = suc n; section = s; symbol = y; entry = 0 })
-
-pub fault-some : (n : ℕ) (s : SectionIndex) (y : SymbolIndex) → (n ≡ 0 → ⊥)
-    → fault_of n s y ≡ some (record { number = n; section = s; symbol = y; entry = 0 })
-fault-some zero s y h = absurd (h refl)
-fault-some (suc n) s y h = refl
+-- the refusal that a number stands for, if there is one
+abbrev pub fault_of : Option ℕ → SectionIndex → SymbolIndex → Option Refusal
+fault_of None s y = None
+fault_of (Some n) s y = Some (record { number = n; section = s; symbol = y; entry = 0 })

@@ -1,7 +1,7 @@
 // What an object's records stand for: the kind of a section, which symbols are programs or defined text, and where code begins.
 #![tactic(auto)]
 
-ghost use Rattle.std.specs.Prelude.{◌≡◌};
+ghost use Rattle.std.specs.Prelude.{◌≡◌, Err};
 ghost use Rattle.model.specs.Refusals.{no_symbol};
 ghost use Rattle.model.specs.SectionKind.{kind_of};
 ghost use Rattle.object.specs.Offset.{record_offset, code_offset};
@@ -9,22 +9,14 @@ ghost use Rattle.object.specs.View.{section_from, named_text, defined_record};
 
 use model::{EbpfSectionKind, Refusal, SectionRecord, SymbolIndex, SymbolRecord};
 use object_view::View;
-use records::name_at;
-use stream::size;
-
-// What a check of a part of the object finds: nothing, or why the object is refused.
-#[derive(Clone, Copy)]
-pub enum Checked {
-    Fine,
-    Refused(Refusal),
-}
+use records::name;
 
 // Refused, with the section named.
-pub fn of_section(number: u32, s: SectionRecord) -> Checked
-    ensures { result ≡ Checked.Refused (record { number = number; section = s.index; symbol = no_symbol; entry = 0 }) }
+pub fn of_section(number: u32, s: SectionRecord) -> Result<(), Refusal>
+    ensures { result ≡ Err (record { number = number; section = s.index; symbol = no_symbol; entry = 0 }) }
 {
     let section = s.index;
-    Checked::Refused(Refusal {
+    Err(Refusal {
         number,
         section,
         symbol: SymbolIndex(0),
@@ -33,12 +25,12 @@ pub fn of_section(number: u32, s: SectionRecord) -> Checked
 }
 
 // Refused, with the section and the symbol named.
-pub fn of_symbol(number: u32, s: SectionRecord, y: SymbolRecord) -> Checked
-    ensures { result ≡ Checked.Refused (record { number = number; section = s.index; symbol = y.index; entry = 0 }) }
+pub fn of_symbol(number: u32, s: SectionRecord, y: SymbolRecord) -> Result<(), Refusal>
+    ensures { result ≡ Err (record { number = number; section = s.index; symbol = y.index; entry = 0 }) }
 {
     let section = s.index;
     let symbol = y.index;
-    Checked::Refused(Refusal {
+    Err(Refusal {
         number,
         section,
         symbol,
@@ -46,12 +38,11 @@ pub fn of_symbol(number: u32, s: SectionRecord, y: SymbolRecord) -> Checked
     })
 }
 
+#[tactic(auto, unfolding(model::specs::SectionKind::kind_of, crate::specs::View::section_from))]
 pub fn kind_of(d: &[u8], t: &[u32], v: View, s: SectionRecord) -> EbpfSectionKind
     ensures { result ≡ kind_of (section_from d.now t.now v s) }
 {
-    let at = name_at(v, s.name);
-    let n = size(s.name.length);
-    let kind = section_kind::from_name(d, records::gap(v), at, n);
+    let kind = section_kind::from_name(name(d, v, s.name));
     section_kind::or_program(kind, s.mark == 1, s.size)
 }
 
@@ -79,12 +70,9 @@ pub fn program_offset(s: SectionRecord, y: SymbolRecord) -> u64
 pub fn code_offset(d: &[u8], t: &[u32], v: View, s: SectionRecord, y: SymbolRecord) -> u64
     ensures { result ≡ code_offset d.now t.now v s y }
 {
-    let start = s.address;
     if section_kind::is_program(kind_of(d, t, v, s)) {
         program_offset(s, y)
-    } else if start < y.address {
-        y.address - start
     } else {
-        0
+        y.address.saturating_sub(s.address)
     }
 }

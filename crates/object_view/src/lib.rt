@@ -4,7 +4,7 @@
 ghost use Rattle.std.specs.Prelude.{◌≡◌};
 ghost use Rattle.object_view.specs.NoIndex.{is_none};
 
-use model::{Endianness, Refusal, SectionIndex, SymbolIndex};
+use model::{Endianness, SectionIndex, SymbolIndex};
 
 // What was given: a deposit's blocks, or an ELF file.
 #[derive(Clone, Copy)]
@@ -42,16 +42,10 @@ pub struct View {
     pub strings: Strings,
 }
 
-// What opening answers: the view of an object that can be read, or why it is refused.
-#[derive(Clone, Copy)]
-pub enum Opened {
-    View(View),
-    Refused(Refusal),
-}
-
 // A symbol's section where it has none, and a relocation's symbol.
 pub const NO_INDEX: u32 = 0xFFFF_FFFF;
 
+// The two types of index have one test each: a trait over them is longer than both.
 pub fn is_no_section(index: SectionIndex) -> bool
     ensures { result ≡ is_none index.0 }
 {

@@ -1,9 +1,8 @@
 -- Relocations without a symbol, by number: from each number the nearest one, so that a section's range is told by one look.
-use Rattle.std.specs.Prelude.{◌≡◌, Bool, ◌||◌, ◌&&◌, List, [], ◌∷◌, ◌++◌, ltb, length, get_or, take, drop, set}
+use Rattle.std.specs.Prelude.{◌≡◌, Bool, ◌||◌, ◌&&◌, List, [], ◌∷◌, ◌++◌, ltb, length, get_or, take, drop, set, None, Some}
 use Rattle.std.proofs.Math.Path.{refl, ap}
 use Rattle.std.proofs.Common.{sym, ◌∙◌, append_assoc, not-suc-le-zero, le_of_suc-le-suc, lt-ltb, le-ltb, length-append, take-append-drop, take-suc, length-take-le}
 use Rattle.std.proofs.Math.Bool.{true, false, cond, not}
-use Rattle.std.proofs.Math.Option.{none, some}
 use Prim.Native.Nat.{ℕ, zero, suc, ◌+◌, ◌-◌, ◌<◌, ◌≤◌}
 use native.Mathlib.Omega.{arith}
 use Rattle.std.proofs.Math.ListN.{get_or-append}
@@ -142,7 +141,7 @@ module _ (d t : List ℕ) (v : View) where
   unfolding no_target reloc_in reloc_of
   no_target_lem k = go (is_none (relocation_at d t v k).symbol.0)
     where
-      go : (b : Bool) → not (is_some (cond b none (some (relocation_at d t v k).symbol))) ≡ b
+      go : (b : Bool) → not (is_some (cond b None (Some (relocation_at d t v k).symbol))) ≡ b
       go true = refl
       go false = refl
 

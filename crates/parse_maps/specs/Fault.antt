@@ -1,6 +1,5 @@
 -- Numbers 10 and 16 of a map's symbol by the records, and what numbers stand for its maps.
-use Rattle.std.specs.Prelude.{cond, List, map, ℕ}
-use Rattle.std.proofs.Math.Option.{Option}
+use Rattle.std.specs.Prelude.{cond, List, map, ℕ, None, Option, Some}
 use Rattle.object_view.specs.declared.View.{View}
 use Rattle.model.specs.declared.Refusal.{Refusal}
 use Rattle.model.specs.declared.SectionRecord.{SectionRecord}
@@ -19,10 +18,10 @@ abbrev pub symbol_map_numbers : ℕ → List ℕ → List ℕ
 symbol_map_numbers sections js = map (λ j. map_number_of sections (MapSource.Symbol j)) js
 
 module _ (d : List ℕ) (v : View) (s : SectionRecord) where
-  unfoldable pub map_fault : SymbolRecord → ℕ
+  unfoldable pub map_fault : SymbolRecord → Option ℕ
   map_fault y =
-      cond (past_data s.bytes.length y.address y.size) 10
-      (cond (invalid_map_definition y.size (words_of (part (data_in d v s.bytes) y.address y.size))) 16 0)
+      cond (past_data s.bytes.length y.address y.size) (Some 10)
+      (cond (invalid_map_definition y.size (words_of (part (data_in d v s.bytes) y.address y.size))) (Some 16) None)
 
 module _ (d t : List ℕ) (v : View) (s : SectionRecord) where
   abbrev pub map_refusal_by : SymbolRecord → Option Refusal

@@ -1,8 +1,7 @@
 -- What refuses a `maps` section, by the group of its symbols: 9, then its symbols.
-use Rattle.std.specs.Prelude.{◌≡◌, false, List, [], map, ℕ, ◌<◌, length}
+use Rattle.std.specs.Prelude.{◌≡◌, false, List, [], map, ℕ, ◌<◌, length, Some}
 use Rattle.std.proofs.Common.{sym, ◌∙◌}
 use Rattle.std.proofs.Math.Path.{ap}
-use Rattle.std.proofs.Math.Option.{some}
 use Rattle.object_view.specs.declared.View.{View}
 use Rattle.model.specs.declared.SectionRecord.{SectionRecord}
 use Rattle.model.specs.Bytes.{first_in}
@@ -13,7 +12,7 @@ use Rattle.object.specs.Group.{members_in, some-symbol, symbols-in}
 use Rattle.object.specs.View.{section_from, symbol_in, object_in}
 
 module _ (o : Object) (s : Section) where
-  empty : symbols_of o s ≡ [] → maps_refusal o s ≡ some (record { number = 9; section = s.index; symbol = no_symbol; entry = 0 })
+  empty : symbols_of o s ≡ [] → maps_refusal o s ≡ Some (record { number = 9; section = s.index; symbol = no_symbol; entry = 0 })
   unfolding maps_refusal
   empty e = rw e
 
@@ -26,7 +25,7 @@ module _ (d t : List ℕ) (v : View) (s : SectionRecord) (js : List ℕ) (group 
   symbols = symbols-in d t v s ∙ ap (map (symbol_in d t v)) (sym group)
 
   pub refused-empty : js ≡ []
-      → maps_refusal (object_in d t v) (section_from d t v s) ≡ some (record { number = 9; section = s.index; symbol = no_symbol; entry = 0 })
+      → maps_refusal (object_in d t v) (section_from d t v s) ≡ Some (record { number = 9; section = s.index; symbol = no_symbol; entry = 0 })
   unfolding section_from
   refused-empty e = empty (object_in d t v) (section_from d t v s) (symbols ∙ ap (map (symbol_in d t v)) e)
 

@@ -10,29 +10,28 @@ ghost use Rattle.object.specs.Group.{members_in};
 ghost use Rattle.object.specs.View.{section_from, symbol_in, object_in};
 ghost use Rattle.parse_maps.specs.Fault.{map_fault, symbol_map_numbers};
 
-use model::{SectionRecord, SymbolRecord};
-use object::Checked;
+use model::{Refusal, SectionRecord, SymbolRecord};
 use object_view::View;
 use records::{MapSource, map_number};
 use stream::wide64;
 
-// What refuses a map's symbol: 10 or 16, else 0. No sum is made before 10 is ruled out, so none can wrap.
-fn map_fault(d: &[u8], v: View, s: SectionRecord, y: SymbolRecord) -> u32
+// What refuses a map's symbol: 10 or 16. No sum is made before 10 is ruled out, so none can wrap.
+fn map_fault(d: &[u8], v: View, s: SectionRecord, y: SymbolRecord) -> Option<u32>
     ensures { result ≡ map_fault d.now v s y }
 {
     let length = wide64(s.bytes.length);
     if length < y.address {
-        return 10;
+        return Some(10);
     }
     if length - y.address < y.size {
-        return 10;
+        return Some(10);
     }
     let at = records::data_place(v, s.bytes) + y.address as usize;
-    let def = map_def::parse_map_def(d, records::gap(v), at, y.size as usize);
+    let def = map_def::parse_map_def(records::stream(d, v).span(at, y.size as usize));
     if map_def::invalid_map_definition(y.size, def) {
-        16
+        Some(16)
     } else {
-        0
+        None
     }
 }
 
@@ -45,23 +44,20 @@ pub fn map_symbols(
     symbols: &[u32],
     lo: usize,
     hi: usize,
-) -> Checked
+) -> Result<(), Refusal>
     requires { hi ≤ length symbols.now }
     ensures { result
         ≡ checked_of
         (first_in (map_symbol_refusal (section_from d.now t.now v s))
         (map (symbol_in d.now t.now v) (slice lo hi symbols.now))) }
 {
-    let mut i = lo;
-    while i < hi {
+    for i in lo..hi {
         let y = records::symbol(d, t, v, symbols[i]);
-        let fault = map_fault(d, v, s, y);
-        if fault != 0 {
+        if let Some(fault) = map_fault(d, v, s, y) {
             return object::of_symbol(fault, s, y);
         }
-        i += 1;
     }
-    Checked::Fine
+    Ok(())
 }
 
 // What refuses a `maps` section; the group is that of its symbols.
@@ -73,7 +69,7 @@ pub fn parse_maps_section(
     symbols: &[u32],
     lo: usize,
     hi: usize,
-) -> Checked
+) -> Result<(), Refusal>
     requires { (hi ≤ length symbols.now) × (slice lo hi symbols.now ≡ members_in d.now t.now v s) }
     ensures { result ≡ checked_of (maps_refusal (object_in d.now t.now v) (section_from d.now t.now v s)) }
 {
@@ -99,12 +95,10 @@ pub fn map_numbers(
         × (out.new ≡ take w out.old ++ (symbol_map_numbers sections (slice lo hi symbols.now) ++ drop result out.old)) }
 {
     let mut n = w;
-    let mut i = lo;
-    while i < hi {
+    for i in lo..hi {
         let j = symbols[i];
         out[n] = map_number(sections, MapSource::Symbol(j));
         n += 1;
-        i += 1;
     }
     n
 }

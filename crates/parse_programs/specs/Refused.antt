@@ -1,11 +1,10 @@
 -- What refuses a program section, by its name and the group of its symbols: 8, then 9, then its programs.
-use Rattle.std.specs.Prelude.{◌≡◌, false, ℕ, ◌<◌, length}
+use Rattle.model.specs.declared.ProgramSectionError.{ProgramSectionError}
+use Rattle.std.specs.Prelude.{◌≡◌, false, ℕ, ◌<◌, length, Err, Ok, Some}
 use Rattle.std.proofs.Common.{sym, ◌∙◌}
 use Rattle.std.proofs.Math.Path.{ap}
 use mathlib.Core.List.{List, [], map}
-use Rattle.std.proofs.Math.Option.{some}
 use Rattle.object_view.specs.declared.View.{View}
-use Rattle.model.specs.declared.ParsedProgramSection.{ParsedProgramSection}
 use Rattle.model.specs.declared.ProgramSection.{ProgramSection}
 use Rattle.model.specs.declared.SectionRecord.{SectionRecord}
 use Rattle.model.specs.Bytes.{first_in}
@@ -18,13 +17,13 @@ use Rattle.records.specs.View.{name_in}
 use Rattle.object.specs.View.{section_from, symbol_in, object_in}
 
 module _ (o : Object) (s : Section) where
-  unknown : from_str s.name ≡ ParsedProgramSection.InvalidProgramSection
-      → program_refusal o s ≡ some (record { number = 8; section = s.index; symbol = no_symbol; entry = 0 })
+  unknown : from_str s.name ≡ (Err ProgramSectionError.InvalidProgramSection)
+      → program_refusal o s ≡ Some (record { number = 8; section = s.index; symbol = no_symbol; entry = 0 })
   unfolding program_refusal
   unknown e = rw e
 
-  module _ (w : ProgramSection) (known : from_str s.name ≡ ParsedProgramSection.Section w) where
-    empty : symbols_of o s ≡ [] → program_refusal o s ≡ some (record { number = 9; section = s.index; symbol = no_symbol; entry = 0 })
+  module _ (w : ProgramSection) (known : from_str s.name ≡ Ok w) where
+    empty : symbols_of o s ≡ [] → program_refusal o s ≡ Some (record { number = 9; section = s.index; symbol = no_symbol; entry = 0 })
     unfolding program_refusal
     empty e = rw (known, e)
 
@@ -33,17 +32,17 @@ module _ (o : Object) (s : Section) where
     others e = rw (known, e)
 
 module _ (d t : List ℕ) (v : View) (s : SectionRecord) where
-  pub refused-unknown : from_str (name_in d v s.name) ≡ ParsedProgramSection.InvalidProgramSection
-      → program_refusal (object_in d t v) (section_from d t v s) ≡ some (record { number = 8; section = s.index; symbol = no_symbol; entry = 0 })
+  pub refused-unknown : from_str (name_in d v s.name) ≡ (Err ProgramSectionError.InvalidProgramSection)
+      → program_refusal (object_in d t v) (section_from d t v s) ≡ Some (record { number = 8; section = s.index; symbol = no_symbol; entry = 0 })
   unfolding section_from
   refused-unknown e = unknown (object_in d t v) (section_from d t v s) e
 
-  module _ (w : ProgramSection) (known : from_str (name_in d v s.name) ≡ ParsedProgramSection.Section w) (js : List ℕ) (group : js ≡ members_in d t v s) where
+  module _ (w : ProgramSection) (known : from_str (name_in d v s.name) ≡ Ok w) (js : List ℕ) (group : js ≡ members_in d t v s) where
     symbols : symbols_of (object_in d t v) (section_from d t v s) ≡ map (symbol_in d t v) js
     symbols = symbols-in d t v s ∙ ap (map (symbol_in d t v)) (sym group)
 
     pub refused-empty : js ≡ []
-        → program_refusal (object_in d t v) (section_from d t v s) ≡ some (record { number = 9; section = s.index; symbol = no_symbol; entry = 0 })
+        → program_refusal (object_in d t v) (section_from d t v s) ≡ Some (record { number = 9; section = s.index; symbol = no_symbol; entry = 0 })
     unfolding section_from
     refused-empty e = empty (object_in d t v) (section_from d t v s) w known (symbols ∙ ap (map (symbol_in d t v)) e)
 

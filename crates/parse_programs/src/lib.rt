@@ -10,30 +10,29 @@ ghost use Rattle.object.specs.Group.{members_in, programs_among};
 ghost use Rattle.object.specs.View.{section_from, symbol_in, object_in};
 ghost use Rattle.parse_programs.specs.Fault.{program_fault};
 
-use model::{ParsedProgramSection, SectionRecord, SymbolRecord};
-use object::Checked;
+use model::{ProgramSectionError, Refusal, SectionRecord, SymbolRecord};
 use object_view::View;
-use stream::{size, wide64};
+use stream::wide64;
 
-// What refuses a program's symbol: 10 or 15, else 0. No sum is made, so none can wrap.
-fn parse_program(s: SectionRecord, y: SymbolRecord) -> u32
+// What refuses a program's symbol: 10 or 15. No sum is made, so none can wrap.
+fn parse_program(s: SectionRecord, y: SymbolRecord) -> Option<u32>
     ensures { result ≡ program_fault s y }
 {
     let length = wide64(s.bytes.length);
     let start = object::program_offset(s, y);
     if y.address < s.address {
-        return 10;
+        return Some(10);
     }
     if length < start {
-        return 10;
+        return Some(10);
     }
     if length - start < y.size {
-        return 10;
+        return Some(10);
     }
     if insn::invalid_program_code(y.size) {
-        15
+        Some(15)
     } else {
-        0
+        None
     }
 }
 
@@ -46,25 +45,22 @@ pub fn program_symbols(
     symbols: &[u32],
     lo: usize,
     hi: usize,
-) -> Checked
+) -> Result<(), Refusal>
     requires { hi ≤ length symbols.now }
     ensures { result
         ≡ checked_of
         (first_in (program_symbol_refusal (section_from d.now t.now v s))
         (map (symbol_in d.now t.now v) (programs_among d.now t.now v (slice lo hi symbols.now)))) }
 {
-    let mut i = lo;
-    while i < hi {
+    for i in lo..hi {
         let y = records::symbol(d, t, v, symbols[i]);
         if object::is_program(y) {
-            let fault = parse_program(s, y);
-            if fault != 0 {
+            if let Some(fault) = parse_program(s, y) {
                 return object::of_symbol(fault, s, y);
             }
         }
-        i += 1;
     }
-    Checked::Fine
+    Ok(())
 }
 
 // What refuses a program section; the group is that of its symbols.
@@ -76,16 +72,13 @@ pub fn program_refusal(
     symbols: &[u32],
     lo: usize,
     hi: usize,
-) -> Checked
+) -> Result<(), Refusal>
     requires { (hi ≤ length symbols.now) × (slice lo hi symbols.now ≡ members_in d.now t.now v s) }
     ensures { result ≡ checked_of (program_refusal (object_in d.now t.now v) (section_from d.now t.now v s)) }
 {
-    let at = records::name_at(v, s.name);
-    let n = size(s.name.length);
-    let parsed = program_section::from_str(d, records::gap(v), at, n);
-    match parsed {
-        ParsedProgramSection::InvalidProgramSection => object::of_section(8, s),
-        ParsedProgramSection::Section(_) => {
+    match program_section::from_str(records::name(d, v, s.name)) {
+        Err(_) => object::of_section(8, s),
+        Ok(_) => {
             if hi <= lo {
                 object::of_section(9, s)
             } else {
@@ -112,14 +105,12 @@ pub fn program_numbers(
         ≡ take w out.old ++ (programs_among d.now t.now v (slice lo hi symbols.now) ++ drop result out.old)) }
 {
     let mut n = w;
-    let mut i = lo;
-    while i < hi {
+    for i in lo..hi {
         let j = symbols[i];
         if object::is_program(records::symbol(d, t, v, j)) {
             out[n] = j;
             n += 1;
         }
-        i += 1;
     }
     n
 }

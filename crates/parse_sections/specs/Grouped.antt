@@ -1,9 +1,8 @@
 -- The group of one section's symbols, and its defined text in order of address.
-use Rattle.std.specs.Prelude.{◌≡◌, Bool, cond, List, [], ◌∷◌, ℕ, ◌+◌, ◌-◌, ◌<◌, ◌≤◌, take, drop}
+use Rattle.std.specs.Prelude.{◌≡◌, Bool, cond, List, [], ◌∷◌, ℕ, ◌+◌, ◌-◌, ◌<◌, ◌≤◌, take, drop, None, Some}
 use Rattle.std.proofs.Math.Path.{refl, sym, ap}
 use Rattle.std.proofs.Common.{◌∙◌, arith, length-take-le, take-add, take_all, drop_at}
 use Rattle.std.proofs.Math.Bool.{true, false}
-use Rattle.std.proofs.Math.Option.{none, some}
 use borrow.Author.Tests.{eqb-false, ne_eqb, eqb-true}
 use Rattle.std.proofs.Math.Dec.{eqb}
 use Rattle.std.proofs.Math.ListN.{length}
@@ -82,7 +81,7 @@ module _ (d t : List ℕ) (v : View) where
   unfolding members section_from symbol_from
   no-members s e = keep-ext _ (λ j. false) (up_to v.symbols) (λ j. out (symbol_at d t v j).section) ∙ none_kept (up_to v.symbols)
     where
-      go : (i : SectionIndex) (b : Bool) → is_none i.0 ≡ b → lies_in s.index (cond b none (some i)) ≡ false
+      go : (i : SectionIndex) (b : Bool) → is_none i.0 ≡ b → lies_in s.index (cond b None (Some i)) ≡ false
       go i true q = refl
       go i false q = ne_eqb s.index.0 i.0 (λ r. eqb-false i.0 no_index q (sym r ∙ eqb-true s.index.0 no_index e))
 

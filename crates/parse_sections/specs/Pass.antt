@@ -1,13 +1,11 @@
 -- The pass over all sections: the first refusal, and the numbers that those passed list for each table.
-use Rattle.std.specs.Prelude.{◌≡◌, List, ◌++◌, ℕ, ◌+◌, ◌-◌, ◌<◌, ◌≤◌, length, take, drop}
+use Rattle.std.specs.Prelude.{◌≡◌, List, ◌++◌, ℕ, ◌+◌, ◌-◌, ◌<◌, ◌≤◌, length, take, drop, Err, None, Ok, Option, Result, Some}
 use Rattle.std.proofs.Math.Path.{refl, ap}
 use Rattle.std.proofs.Common.{sym, ◌∙◌, arith, length-take-le}
-use Rattle.std.proofs.Math.Option.{Option, none, some}
 use Rattle.std.proofs.Math.Seq.{slice, length-slice}
 use Rattle.lists.specs.Tab.{tab, tab-none, rows}
 use Rattle.object_view.specs.declared.View.{View}
 use Rattle.model.specs.declared.EbpfSectionKind.{EbpfSectionKind as Kind}
-use Rattle.model.specs.declared.KernelVersion.{KernelVersion}
 use Rattle.model.specs.declared.Refusal.{Refusal}
 use Rattle.model.specs.Bytes.{first_in, or_else}
 use Rattle.model.specs.Contents.{version_of}
@@ -24,10 +22,8 @@ use Rattle.object.specs.View.{section_in, symbol_in, object_in}
 use Rattle.catalogue_numbers.specs.Numbers.{sections_from, programs_from, functions_from, maps_from, section_candidates, program_candidates, function_candidates, map_candidates}
 use Rattle.parse_first.specs.declared.LicenseAt.{LicenseAt}
 use Rattle.parse_first.specs.LicenceVersion.{licence_refused, version_refused, license_at}
-use Rattle.parse_text.specs.declared.ParsedText.{ParsedText}
 use Rattle.parse_text.specs.Parsed.{parsed_text}
 use Rattle.parse_sections.specs.declared.Counts.{Counts}
-use Rattle.parse_sections.specs.declared.Tables.{Tables}
 use Rattle.parse_sections.specs.Grouped.{GroupOf, Reached, reached-start, reached-next, all-symbols}
 use Rattle.parse_sections.specs.Answers.{Answers, functions_by, functions-by}
 use Rattle.parse_sections.specs.Lists.{few-sections, few-programs, few-maps, sections-by, programs-by, maps-by, RoomFor, Lists}
@@ -45,21 +41,21 @@ module _ (d t : List ℕ) (v : View) where
   unfolding object_refusal object_in
   refused-in-turn = refl
 
-  pub refused-licence : (x : Refusal) → licence_refused d t v ≡ some x → object_refusal o ≡ some x
+  pub refused-licence : (x : Refusal) → licence_refused d t v ≡ Some x → object_refusal o ≡ Some x
   refused-licence x e = refused-in-turn ∙ ap (λ a. or_else a (or_else (version_refused d t v) sections_refused)) e
 
-  module _ (e : licence_refused d t v ≡ none) where
-    pub refused-version : (x : Refusal) → version_refused d t v ≡ some x → object_refusal o ≡ some x
+  module _ (e : licence_refused d t v ≡ None) where
+    pub refused-version : (x : Refusal) → version_refused d t v ≡ Some x → object_refusal o ≡ Some x
     refused-version x f = refused-in-turn ∙ (λ k. or_else (e k) (or_else (f k) sections_refused))
 
-    pub refused-sections : version_refused d t v ≡ none → object_refusal o ≡ sections_refused
+    pub refused-sections : version_refused d t v ≡ None → object_refusal o ≡ sections_refused
     refused-sections f = refused-in-turn ∙ (λ k. or_else (e k) (or_else (f k) sections_refused))
 
   -- ---- what the pass answers
 
   -- nothing refuses the object, the first n of each list are what its sections list, and n has its licence and its version
   pub record AllListed (q : Option Refusal) (n : Counts) (sections programs functions maps : List ℕ) : Type 0 where
-    pub fine : q ≡ none
+    pub fine : q ≡ None
     pub few-sections : n.sections ≤ v.sections
     pub few-programs : n.programs ≤ v.symbols
     pub few-functions : n.functions ≤ v.symbols
@@ -71,16 +67,16 @@ module _ (d t : List ℕ) (v : View) where
     pub of-license : n.license ≡ license_at d t v
     pub of-version : n.version ≡ version_of o
 
-  abbrev pub ListedOrRefused : Option Refusal → Tables → List ℕ → List ℕ → List ℕ → List ℕ → Type 0
-  ListedOrRefused q (Tables.Refused x) sections programs functions maps = q ≡ some x
-  ListedOrRefused q (Tables.Numbers n) sections programs functions maps = AllListed q n sections programs functions maps
+  abbrev pub ListedOrRefused : Option Refusal → Result Counts Refusal → List ℕ → List ℕ → List ℕ → List ℕ → Type 0
+  ListedOrRefused q (Err x) sections programs functions maps = q ≡ Some x
+  ListedOrRefused q (Ok n) sections programs functions maps = AllListed q n sections programs functions maps
 
   -- ---- the loop
 
   -- i sections are passed: none is refused, their symbols end at `from`, the first n of each list are what they list, and n has the licence and the version
   pub record Going (order sections programs functions maps : List ℕ) (i from : ℕ) (n : Counts) : Type 0 where
     pub reached : Reached d t v order i from
-    pub fine : first_in (section_refusal o) (tab (section_in d t v) i) ≡ none
+    pub fine : first_in (section_refusal o) (tab (section_in d t v) i) ≡ None
     pub few-sections : n.sections ≤ i
     pub few-programs : n.programs ≤ n.functions
     pub few-functions : n.functions ≤ from
@@ -95,14 +91,14 @@ module _ (d t : List ℕ) (v : View) where
   -- section i is passed too, and its functions are those from w to m of a list
   pub record SectionAhead (order functions : List ℕ) (i hi w m : ℕ) : Type 0 where
     pub reached : Reached d t v order (i + 1) hi
-    pub fine : first_in (section_refusal o) (tab (section_in d t v) (i + 1)) ≡ none
+    pub fine : first_in (section_refusal o) (tab (section_in d t v) (i + 1)) ≡ None
     pub grown : w ≤ m
     pub few : m ≤ hi
     pub own : slice w m functions ≡ functions_from d t v i
     pub held : Candidates (rows (functions_from d t v) (i + 1)) m functions
 
   module _ (order sections programs functions maps : List ℕ) where
-    pub going_start : (l : LicenseAt) (k : KernelVersion) → l ≡ license_at d t v → k ≡ version_of o
+    pub going_start : (l : LicenseAt) (k : Option ℕ) → l ≡ license_at d t v → k ≡ version_of o
         → Going order sections programs functions maps 0 0 (record { sections = 0; programs = 0; functions = 0; maps = 0; license = l; version = k })
     unfolding first_in
     going_start l k e f =
@@ -162,25 +158,25 @@ module _ (d t : List ℕ) (v : View) where
 
       module _ (l : i < v.sections) (readable : Readable d t v) (lo hi : ℕ) (b : GroupOf d t v (section_at d t v i) order from lo hi) where
         -- its functions were appended to the front of the list, up to hi
-        module _ (r : ParsedText) (out : List ℕ)
+        module _ (r : Result ℕ Refusal) (out : List ℕ)
             (a : Answers (section_refusal o (section_in d t v i)) (functions_by d t v (section_at d t v i)) (take (hi - 0) functions) n.functions r out) where
-          pub going-refused : (x : Refusal) → r ≡ ParsedText.Refused x → sections_refused ≡ some x
+          pub going-refused : (x : Refusal) → r ≡ Err x → sections_refused ≡ Some x
           going-refused x f = first_in-at (section_refusal o) (section_in d t v) i v.sections x l g.fine (go (section_refusal o (section_in d t v i)) (sym f ∙ a.answer))
             where
-              go : (q : Option Refusal) → ParsedText.Refused x ≡ parsed_text q (n.functions + length (functions_by d t v (section_at d t v i))) → q ≡ some x
-              go none z = let no : ◌≡◌ {A = ℕ} 0 1 = cc in absurd (omega arith)
-              go (some w) z = cc
+              go : (q : Option Refusal) → Err x ≡ parsed_text q (n.functions + length (functions_by d t v (section_at d t v i))) → q ≡ Some x
+              go None z = let no : ◌≡◌ {A = ℕ} 0 1 = cc in absurd (omega arith)
+              go (Some w) z = cc
 
-          fine-here : (m : ℕ) → r ≡ ParsedText.Functions m
-              → (section_refusal o (section_in d t v i) ≡ none) × (m ≡ n.functions + length (functions_by d t v (section_at d t v i)))
+          fine-here : (m : ℕ) → r ≡ Ok m
+              → (section_refusal o (section_in d t v i) ≡ None) × (m ≡ n.functions + length (functions_by d t v (section_at d t v i)))
           fine-here m f = go (section_refusal o (section_in d t v i)) (sym f ∙ a.answer)
             where
-              go : (q : Option Refusal) → ParsedText.Functions m ≡ parsed_text q (n.functions + length (functions_by d t v (section_at d t v i)))
-                  → (q ≡ none) × (m ≡ n.functions + length (functions_by d t v (section_at d t v i)))
-              go none z = (refl, cc)
-              go (some w) z = let no : ◌≡◌ {A = ℕ} 0 1 = cc in absurd (omega arith)
+              go : (q : Option Refusal) → Ok m ≡ parsed_text q (n.functions + length (functions_by d t v (section_at d t v i)))
+                  → (q ≡ None) × (m ≡ n.functions + length (functions_by d t v (section_at d t v i)))
+              go None z = (refl, cc)
+              go (Some w) z = let no : ◌≡◌ {A = ℕ} 0 1 = cc in absurd (omega arith)
 
-          pub going-ahead : (m : ℕ) → hi ≤ length functions → length out ≡ length (take (hi - 0) functions) → r ≡ ParsedText.Functions m
+          pub going-ahead : (m : ℕ) → hi ≤ length functions → length out ≡ length (take (hi - 0) functions) → r ≡ Ok m
               → SectionAhead order (out ++ drop (hi - 0) functions) i hi n.functions m
           going-ahead m room len f =
               let q = fine-here m f in

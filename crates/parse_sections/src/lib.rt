@@ -19,17 +19,15 @@ ghost use Rattle.object.specs.View.{section_from, symbol_in, object_in};
 ghost use Rattle.parse_first.specs.LicenceVersion.{license_at};
 ghost use Rattle.parse_first.specs.Targets.{NextOf};
 ghost use Rattle.parse_sections.specs.Grouped.{SymbolsPassed, GroupOf};
-ghost use Rattle.parse_sections.specs.Answers.{checked_text, Answers, walked_in, functions_by};
+ghost use Rattle.parse_sections.specs.Answers.{Answers, walked_in, functions_by};
 ghost use Rattle.parse_sections.specs.Lists.{sections_of, program_numbers_of, map_numbers_of, RoomFor, Lists};
 ghost use Rattle.parse_sections.specs.Pass.{ListedOrRefused, sections_refused};
 
-use model::{EbpfSectionKind, KernelVersion, Refusal, SectionRecord};
-use object::Checked;
+use model::{EbpfSectionKind, Refusal, SectionRecord};
 use object_view::{View, is_no_section};
 use parse_first::LicenseAt;
-use parse_text::ParsedText;
 use record_keys::By;
-use records::{Cursor, MapSource, Step, map_number};
+use records::{Cursor, MapSource, map_number};
 use stream::size;
 
 // How many record numbers there are for each table; where the licence stands, and the version.
@@ -40,13 +38,7 @@ pub struct Counts {
     pub functions: usize,
     pub maps: usize,
     pub license: LicenseAt,
-    pub version: KernelVersion,
-}
-
-#[derive(Clone, Copy)]
-pub enum Tables {
-    Refused(Refusal),
-    Numbers(Counts),
+    pub version: Option<u32>,
 }
 
 // Where a section's symbols lie among all symbols sorted by section.
@@ -65,20 +57,10 @@ fn group_of(d: &[u8], t: &[u32], v: View, s: SectionRecord, symbols: &[u32], fro
     let k = s.index;
     let lo = symbol_groups::group_start(d, t, v, symbols, from, k);
     if is_no_section(k) {
-        return Group { lo: lo, hi: lo };
+        return Group { lo, hi: lo };
     }
     let hi = symbol_groups::group_end(d, t, v, symbols, lo, k);
-    Group { lo: lo, hi: hi }
-}
-
-// A check's answer, of a section whose functions end at n.
-fn answer(c: Checked, n: usize) -> ParsedText
-    ensures { result ≡ checked_text c n }
-{
-    match c {
-        Checked::Fine => ParsedText::Functions(n),
-        Checked::Refused(r) => ParsedText::Refused(r),
-    }
+    Group { lo, hi }
 }
 
 fn parse_programs(
@@ -91,21 +73,15 @@ fn parse_programs(
     hi: usize,
     functions: &mut [u32],
     w: usize,
-) -> ParsedText
+) -> Result<usize, Refusal>
     requires { (lo ≤ hi) × (hi ≤ length symbols.now) × (w + (hi - lo) ≤ length functions.old)
         × (slice lo hi symbols.now ≡ members_in d.now t.now v s) }
     ensures { Answers (program_refusal (object_in d.now t.now v) (section_from d.now t.now v s))
         (programs_among d.now t.now v (members_in d.now t.now v s)) functions.old w result
         functions.new }
 {
-    match parse_programs::program_refusal(d, t, v, s, symbols, lo, hi) {
-        Checked::Refused(r) => ParsedText::Refused(r),
-        Checked::Fine => {
-            ParsedText::Functions(parse_programs::program_numbers(
-                d, t, v, symbols, lo, hi, functions, w,
-            ))
-        }
-    }
+    parse_programs::program_refusal(d, t, v, s, symbols, lo, hi)?;
+    Ok(parse_programs::program_numbers(d, t, v, symbols, lo, hi, functions, w))
 }
 
 // A copy of a group, sorted by address.
@@ -138,7 +114,7 @@ fn parse_text_section(
     tmp: &mut [u32],
     functions: &mut [u32],
     w: usize,
-) -> ParsedText
+) -> Result<usize, Refusal>
     requires { (lo ≤ hi) × (hi ≤ length symbols.now) × (w + (hi - lo) ≤ length functions.old)
         × (slice lo hi symbols.now ≡ members_in d.now t.now v s)
         × (length group.old ≡ hi - lo) × (length tmp.old ≡ hi - lo) }
@@ -164,7 +140,7 @@ fn parse_kind(
     tmp: &mut [u32],
     functions: &mut [u32],
     w: usize,
-) -> ParsedText
+) -> Result<usize, Refusal>
     requires { (lo ≤ hi) × (hi ≤ length symbols.now) × (w + (hi - lo) ≤ length functions.old)
         × (slice lo hi symbols.now ≡ members_in d.now t.now v s)
         × (length group.old ≡ hi - lo) × (length tmp.old ≡ hi - lo) × (kind ≡ kind_of (section_from d.now t.now v s)) }
@@ -174,26 +150,21 @@ fn parse_kind(
     match kind {
         EbpfSectionKind::Program => { parse_programs(d, t, v, s, symbols, lo, hi, functions, w) }
         EbpfSectionKind::Maps => {
-            answer(
-                parse_maps::parse_maps_section(d, t, v, s, symbols, lo, hi),
-                w,
-            )
+            parse_maps::parse_maps_section(d, t, v, s, symbols, lo, hi)?;
+            Ok(w)
         }
         EbpfSectionKind::Text => {
             parse_text_section(d, t, v, s, symbols, lo, hi, group, tmp, functions, w)
         }
-        EbpfSectionKind::BtfMaps => answer(object::of_section(17, s), w),
-        _ => ParsedText::Functions(w),
+        EbpfSectionKind::BtfMaps => object::of_section(17, s).map(|()| w),
+        _ => Ok(w),
     }
 }
 
 fn is_btf_ext(kind: EbpfSectionKind) -> bool
     ensures { result ≡ is_kind Kind.BtfExt kind }
 {
-    match kind {
-        EbpfSectionKind::BtfExt => true,
-        _ => false,
-    }
+    matches!(kind, EbpfSectionKind::BtfExt)
 }
 
 fn parse_section(
@@ -210,7 +181,7 @@ fn parse_section(
     tmp: &mut [u32],
     functions: &mut [u32],
     w: usize,
-) -> ParsedText
+) -> Result<usize, Refusal>
     requires { (lo ≤ hi) × (hi ≤ length symbols.now) × (w + (hi - lo) ≤ length functions.old)
         × (slice lo hi symbols.now ≡ members_in d.now t.now v s)
         × (length group.old ≡ hi - lo) × (length tmp.old ≡ hi - lo) × (kind ≡ kind_of (section_from d.now t.now v s))
@@ -219,10 +190,10 @@ fn parse_section(
         (functions_by d.now t.now v s) functions.old w result functions.new }
 {
     if is_btf_ext(kind) {
-        return ParsedText::Functions(w);
+        return Ok(w);
     }
     if parse_first::untargeted(s, next) {
-        return answer(object::of_section(4, s), w);
+        return object::of_section(4, s).map(|()| w);
     }
     parse_kind(d, t, v, s, kind, symbols, lo, hi, group, tmp, functions, w)
 }
@@ -329,8 +300,8 @@ fn parse_sections(
     functions: &mut [u32],
     maps: &mut [u32],
     license: LicenseAt,
-    version: KernelVersion,
-) -> Tables
+    version: Option<u32>,
+) -> Result<Counts, Refusal>
     requires { NextOf d.now t.now v next.now × (symbols.now ≡ sorted (by_section (symbol_in d.now t.now v)) (up_to v.symbols))
         × (v.sections ≤ length sections.old) × (v.symbols ≤ length programs.old) × (v.symbols ≤ length functions.old)
         × (v.sections + v.symbols ≤ length maps.old) × Readable d.now t.now v
@@ -350,48 +321,37 @@ fn parse_sections(
         license,
         version,
     };
-    loop {
-        match c.next() {
-            Step::Record(i, moved) => {
-                let s = records::section(d, t, v, i);
-                let kind = object::kind_of(d, t, v, s);
-                let at = group_of(d, t, v, s, symbols, from);
-                let lo = at.lo;
-                let hi = at.hi;
-                let a = count + lo;
-                let b = count + hi;
-                let w = n.functions;
-                match parse_section(
-                    d,
-                    t,
-                    v,
-                    s,
-                    kind,
-                    next,
-                    symbols,
-                    lo,
-                    hi,
-                    &mut programs[lo..hi],
-                    &mut maps[a..b],
-                    &mut functions[0..hi],
-                    w,
-                ) {
-                    ParsedText::Refused(r) => return Tables::Refused(r),
-                    ParsedText::Functions(m) => {
-                        n = list_others(
-                            end, kind, i, symbols, lo, hi, sections, programs, functions, maps, n,
-                            m,
-                        );
-                    }
-                }
-                from = hi;
-                c = moved;
-            }
-            Step::End => {
-                return Tables::Numbers(n);
-            }
-        }
+    while let Some((i, moved)) = c.next() {
+        let s = records::section(d, t, v, i);
+        let kind = object::kind_of(d, t, v, s);
+        let at = group_of(d, t, v, s, symbols, from);
+        let lo = at.lo;
+        let hi = at.hi;
+        let a = count + lo;
+        let b = count + hi;
+        let w = n.functions;
+        let m = parse_section(
+            d,
+            t,
+            v,
+            s,
+            kind,
+            next,
+            symbols,
+            lo,
+            hi,
+            &mut programs[lo..hi],
+            &mut maps[a..b],
+            &mut functions[0..hi],
+            w,
+        )?;
+        n = list_others(
+            end, kind, i, symbols, lo, hi, sections, programs, functions, maps, n, m,
+        );
+        from = hi;
+        c = moved;
     }
+    Ok(n)
 }
 
 // Numbers 4 to 17; the numbers that the sections list for each table, in their order. next and order are worked in.
@@ -405,7 +365,7 @@ pub fn parse_object(
     programs: &mut [u32],
     functions: &mut [u32],
     maps: &mut [u32],
-) -> Tables
+) -> Result<Counts, Refusal>
     requires { (v.relocations ≤ length next.old) × (length symbols.old ≡ v.symbols) × (v.sections ≤ length sections.old)
         × (v.symbols ≤ length programs.old) × (v.symbols ≤ length functions.old) × (v.sections + v.symbols ≤ length maps.old)
         × Readable d.now t.now v }
@@ -418,12 +378,8 @@ pub fn parse_object(
     let named = parse_first::find_named(d, t, v);
     let named_license = named.license;
     let named_version = named.version;
-    if let Checked::Refused(r) = parse_first::license_refusal(d, t, v, named_license, next) {
-        return Tables::Refused(r);
-    }
-    if let Checked::Refused(r) = parse_first::version_refusal(d, t, v, named_version, next) {
-        return Tables::Refused(r);
-    }
+    parse_first::license_refusal(d, t, v, named_license, next)?;
+    parse_first::version_refusal(d, t, v, named_version, next)?;
     let license = parse_first::license_of(d, t, v, named_license);
     let version = parse_first::version_of(d, t, v, named_version);
     parse_sections(

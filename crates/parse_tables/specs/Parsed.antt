@@ -1,7 +1,6 @@
 -- What parsing an object answers, and what it leaves in the lent tables.
-use Rattle.std.specs.Prelude.{◌≡◌, List, ℕ, ◌-◌, ◌≤◌, length, take}
+use Rattle.std.specs.Prelude.{◌≡◌, List, ℕ, ◌-◌, ◌≤◌, length, take, Err, None, Ok, Option, Result, Some}
 use Rattle.std.proofs.Common.{sym, ap, ◌∙◌, arith, length-take-le}
-use Rattle.std.proofs.Math.Option.{Option, none, some}
 use Rattle.lists.specs.Tests.{not_some}
 use Rattle.object_view.specs.declared.View.{View}
 use Rattle.model.specs.declared.Refusal.{Refusal}
@@ -12,7 +11,6 @@ use Rattle.object.specs.View.{object_in}
 use Rattle.catalogue_numbers.specs.Numbers.{section_numbers, program_numbers, function_numbers, map_numbers}
 use Rattle.parse_first.specs.LicenceVersion.{license_at}
 use Rattle.parse_sections.specs.declared.Counts.{Counts}
-use Rattle.parse_sections.specs.declared.Tables.{Tables}
 use Rattle.parse_sections.specs.Candidates.{Candidates, candidates-inside}
 
 -- ---- one table
@@ -39,9 +37,9 @@ lent_length l y n e h = let z : y - 0 ≡ n = omega arith in rw z (length-take-l
 
 -- ---- the answer
 
-abbrev pub tables_of : Option Refusal → Counts → Tables
-tables_of none c = Tables.Numbers c
-tables_of (some q) c = Tables.Refused q
+abbrev pub tables_of : Option Refusal → Counts → Result Counts Refusal
+tables_of None c = Ok c
+tables_of (Some q) c = Err q
 
 module _ (d t : List ℕ) (v : View) where
   abbrev pub counts_of : Counts
@@ -62,13 +60,13 @@ module _ (d t : List ℕ) (v : View) where
     pub of-functions : Front (function_numbers d t v) functions
     pub of-maps : Front (map_numbers d t v) maps
 
-  pub record Parsed (r : Tables) (sections programs functions maps : List ℕ) : Type 0 where
+  pub record Parsed (r : Result Counts Refusal) (sections programs functions maps : List ℕ) : Type 0 where
     pub answer : r ≡ tables_of (object_refusal (object_in d t v)) counts_of
-    pub numbers : object_refusal (object_in d t v) ≡ none → TablesHeld sections programs functions maps
+    pub numbers : object_refusal (object_in d t v) ≡ None → TablesHeld sections programs functions maps
 
   module _ (s p f m : List ℕ) where
-    pub parsed-refused : (x : Refusal) → object_refusal (object_in d t v) ≡ some x → Parsed (Tables.Refused x) s p f m
+    pub parsed-refused : (x : Refusal) → object_refusal (object_in d t v) ≡ Some x → Parsed (Err x) s p f m
     parsed-refused x e = record { answer = rw e; numbers = λ z. not_some x (sym e ∙ z) }
 
-    pub parsed-numbers : (r : Counts) → object_refusal (object_in d t v) ≡ none → r ≡ counts_of → TablesHeld s p f m → Parsed (Tables.Numbers r) s p f m
-    parsed-numbers r e c t = record { answer = ap Tables.Numbers c ∙ rw e; numbers = λ z. t }
+    pub parsed-numbers : (r : Counts) → object_refusal (object_in d t v) ≡ None → r ≡ counts_of → TablesHeld s p f m → Parsed (Ok r) s p f m
+    parsed-numbers r e c t = record { answer = ap Ok c ∙ rw e; numbers = λ z. t }

@@ -8,8 +8,9 @@ ghost use Rattle.object.specs.View.{object_in};
 ghost use Rattle.parse_sections.specs.Pass.{AllListed};
 ghost use Rattle.parse_tables.specs.Parsed.{counts_of, TablesHeld, Parsed};
 
+use model::Refusal;
 use object_view::View;
-use parse_sections::{Counts, Tables};
+use parse_sections::Counts;
 use record_keys::By;
 use stream::size;
 
@@ -53,14 +54,14 @@ pub fn parse(
     maps: &mut [u32],
     symbols: &mut [u32],
     next: &mut [u32],
-) -> Tables
+) -> Result<Counts, Refusal>
     requires { (v.sections ≤ length sections.old) × (v.symbols ≤ length programs.old) × (v.symbols ≤ length functions.old)
         × (v.sections + v.symbols ≤ length maps.old) × (v.sections + v.symbols ≤ length symbols.old)
         × (v.relocations ≤ length next.old) × Readable d.now t.now v }
     ensures { Parsed d.now t.now v result sections.new programs.new functions.new maps.new }
 {
     let y = size(v.symbols);
-    let listed = parse_sections::parse_object(
+    let n = parse_sections::parse_object(
         d,
         t,
         v,
@@ -70,12 +71,7 @@ pub fn parse(
         programs,
         functions,
         maps,
-    );
-    match listed {
-        Tables::Refused(r) => Tables::Refused(r),
-        Tables::Numbers(n) => {
-            let counts = number_tables(d, t, v, sections, programs, functions, maps, symbols, n);
-            Tables::Numbers(counts)
-        }
-    }
+    )?;
+    let counts = number_tables(d, t, v, sections, programs, functions, maps, symbols, n);
+    Ok(counts)
 }

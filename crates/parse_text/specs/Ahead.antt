@@ -1,7 +1,6 @@
 -- A search that only moves forward: among numbers that climb in address, those behind the place it stands at lie below every address still looked for.
-use Rattle.std.specs.Prelude.{◌≡◌, refl, List, [], ◌∷◌, ℕ, ◌<◌, ◌≤◌}
+use Rattle.std.specs.Prelude.{◌≡◌, refl, List, [], ◌∷◌, ℕ, ◌<◌, ◌≤◌, None, Some}
 use Rattle.std.proofs.Common.{◌∙◌, arith, eq-eqb, ne_eqb}
-use Rattle.std.proofs.Math.Option.{none, some}
 use Rattle.model.specs.Bytes.{first_in, find}
 use Rattle.catalogue_laws.specs.Shared.{Climbs, first_at, none_below}
 
@@ -23,7 +22,7 @@ module _ (addr : ℕ → ℕ) where
     unfolding find first_in
     apart j x l n = rw (ne_eqb (addr j) x n)
 
-    here : (j x : ℕ) (l : List ℕ) → addr j ≡ x → first_at addr x (j ∷ l) ≡ some j
+    here : (j x : ℕ) (l : List ℕ) → addr j ≡ x → first_at addr x (j ∷ l) ≡ Some j
     unfolding find first_in
     here j x l e = rw (eq-eqb (addr j) x e)
 
@@ -39,17 +38,17 @@ module _ (addr : ℕ → ℕ) where
     ahead-below a j l k g = behind a a j l (omega arith) k g
 
     -- the number at the address, and what is ahead of the next one
-    pub ahead-met : (a j : ℕ) (l : List ℕ) → addr j ≡ a → Ahead a (j ∷ l) → first_at addr a all ≡ some j
+    pub ahead-met : (a j : ℕ) (l : List ℕ) → addr j ≡ a → Ahead a (j ∷ l) → first_at addr a all ≡ Some j
     ahead-met a j l e g = g.found a (omega arith) ∙ here j a l e
 
     pub ahead_past : (a b j : ℕ) (l : List ℕ) → addr j ≡ a → a < b → Ahead a (j ∷ l) → Ahead b l
     ahead_past a b j l e k g = behind a b j l (omega arith) (omega arith) g
 
     -- a number above the address, or no number
-    pub ahead-lost : (a j : ℕ) (l : List ℕ) → a < addr j → Ahead a (j ∷ l) → first_at addr a all ≡ none
+    pub ahead-lost : (a j : ℕ) (l : List ℕ) → a < addr j → Ahead a (j ∷ l) → first_at addr a all ≡ None
     ahead-lost a j l k g =
         g.found a (omega arith) ∙ none_below addr a (addr j) (j ∷ l) (omega arith, g.climbs.1) k
 
-    pub ahead_none : (a : ℕ) → Ahead a [] → first_at addr a all ≡ none
+    pub ahead_none : (a : ℕ) → Ahead a [] → first_at addr a all ≡ None
     unfolding find first_in
     ahead_none a g = g.found a (omega arith)

@@ -1,10 +1,9 @@
 -- The numbers that the walk of a text section keeps: those met before it ends or is refused.
 use Rattle.std.proofs.Math.Path.{◌≡◌, refl, sym, ap}
 use Rattle.std.proofs.Common.{◌∙◌, lt-ltb, le-ltb, ltb-true, ltb-false}
-use Rattle.std.specs.Prelude.{Bool, cond, ltb}
+use Rattle.std.specs.Prelude.{Bool, cond, ltb, None, Option, Some}
 use Rattle.std.proofs.Math.Bool.{true, false}
 use mathlib.Core.List.{List, [], ◌∷◌}
-use Rattle.std.proofs.Math.Option.{Option, none, some}
 use Prim.Native.Nat.{ℕ, zero, suc, ◌+◌, ◌<◌, ◌≤◌}
 use Rattle.std.proofs.Math.ListN.{length}
 use Rattle.lists.specs.Tests.{not_some}
@@ -21,7 +20,7 @@ use Rattle.catalogue_laws.specs.Walk.{number_in, walk_refusal, walk_numbers, wal
 module _ (e : Endianness) (ss : List Section) (at : ℕ → Symbol) (Y : ℕ) (s : Section) where
   -- 13 to 15 at an offset, of the symbol of a number
   abbrev pub refusal_at : ℕ → ℕ → Option Refusal
-  refusal_at o j = stop_refusal s (record { at = o; met = some (at j) })
+  refusal_at o j = stop_refusal s (record { at = o; met = Some (at j) })
 
   unfoldable pub kept_numbers : ℕ → ℕ → List ℕ
   kept_numbers zero o = []
@@ -35,7 +34,7 @@ module _ (e : Endianness) (ss : List Section) (at : ℕ → Symbol) (Y : ℕ) (s
   kept-end zero o h = refl
   kept-end (suc n) o h = rw (le-ltb o (length s.bytes) h)
 
-  pub kept-lost : (n o : ℕ) → number_in e ss at Y s o ≡ none → kept_numbers n o ≡ []
+  pub kept-lost : (n o : ℕ) → number_in e ss at Y s o ≡ None → kept_numbers n o ≡ []
   unfolding kept_numbers
   kept-lost zero o q = refl
   kept-lost (suc n) o q = rw q (go (ltb o (length s.bytes)))
@@ -44,7 +43,7 @@ module _ (e : Endianness) (ss : List Section) (at : ℕ → Symbol) (Y : ℕ) (s
       go true = refl
       go false = refl
 
-  pub kept-refused : (n o j : ℕ) (r : Refusal) → number_in e ss at Y s o ≡ some j → refusal_at o j ≡ some r → kept_numbers n o ≡ []
+  pub kept-refused : (n o j : ℕ) (r : Refusal) → number_in e ss at Y s o ≡ Some j → refusal_at o j ≡ Some r → kept_numbers n o ≡ []
   unfolding kept_numbers
   kept-refused zero o j r q f = refl
   kept-refused (suc n) o j r q f = rw (q, f) (go (ltb o (length s.bytes)))
@@ -53,30 +52,30 @@ module _ (e : Endianness) (ss : List Section) (at : ℕ → Symbol) (Y : ℕ) (s
       go true = refl
       go false = refl
 
-  pub kept-met : (n o j : ℕ) → o < length s.bytes → number_in e ss at Y s o ≡ some j → refusal_at o j ≡ none
+  pub kept-met : (n o j : ℕ) → o < length s.bytes → number_in e ss at Y s o ≡ Some j → refusal_at o j ≡ None
       → kept_numbers (suc n) o ≡ j ∷ kept_numbers n (o + (at j).size)
   unfolding kept_numbers
   kept-met n o j h q f = rw (lt-ltb o (length s.bytes) h, q, f)
 
   -- an accepted walk keeps every number that it meets
-  pub kept-all : (n o : ℕ) → walk_refusal e ss at Y s n o ≡ none → kept_numbers n o ≡ walk_numbers e ss at Y s n o
+  pub kept-all : (n o : ℕ) → walk_refusal e ss at Y s n o ≡ None → kept_numbers n o ≡ walk_numbers e ss at Y s n o
   unfolding kept_numbers walk_numbers
   kept-all zero o h = refl
   kept-all (suc n) o h = go (ltb o (length s.bytes)) (number_in e ss at Y s o) refl refl (λ j. kept-all n (o + (at j).size))
     where
-      one : (j : ℕ) (f : Option Refusal) → o < length s.bytes → number_in e ss at Y s o ≡ some j → refusal_at o j ≡ f
-          → or_else f (walk_refusal e ss at Y s n (o + (at j).size)) ≡ none
-          → (walk_refusal e ss at Y s n (o + (at j).size) ≡ none → kept_numbers n (o + (at j).size) ≡ walk_numbers e ss at Y s n (o + (at j).size))
+      one : (j : ℕ) (f : Option Refusal) → o < length s.bytes → number_in e ss at Y s o ≡ Some j → refusal_at o j ≡ f
+          → or_else f (walk_refusal e ss at Y s n (o + (at j).size)) ≡ None
+          → (walk_refusal e ss at Y s n (o + (at j).size) ≡ None → kept_numbers n (o + (at j).size) ≡ walk_numbers e ss at Y s n (o + (at j).size))
           → kept_numbers (suc n) o ≡ walk_numbers e ss at Y s (suc n) o
-      one j none l q g r k = kept-met n o j l q g ∙ ap (λ m. j ∷ m) (k r) ∙ sym (numbers-met e ss at Y s n o j l q)
-      one j (some x) l q g r k = not_some x r
+      one j None l q g r k = kept-met n o j l q g ∙ ap (λ m. j ∷ m) (k r) ∙ sym (numbers-met e ss at Y s n o j l q)
+      one j (Some x) l q g r k = not_some x r
 
       go : (b : Bool) (q : Option ℕ) → ltb o (length s.bytes) ≡ b → number_in e ss at Y s o ≡ q
-          → ((j : ℕ) → walk_refusal e ss at Y s n (o + (at j).size) ≡ none → kept_numbers n (o + (at j).size) ≡ walk_numbers e ss at Y s n (o + (at j).size))
+          → ((j : ℕ) → walk_refusal e ss at Y s n (o + (at j).size) ≡ None → kept_numbers n (o + (at j).size) ≡ walk_numbers e ss at Y s n (o + (at j).size))
           → kept_numbers (suc n) o ≡ walk_numbers e ss at Y s (suc n) o
       go false q l f k = let p : length s.bytes ≤ o = ltb-false _ _ l in kept-end (suc n) o p ∙ sym (numbers-end e ss at Y s (suc n) o p)
-      go true none l f k = rw (l, f)
-      go true (some j) l f k =
+      go true None l f k = rw (l, f)
+      go true (Some j) l f k =
           let p : o < length s.bytes = ltb-true _ _ l in
           one j (refusal_at o j) p f refl (sym (walk-met e ss at Y s n o j p f) ∙ h) (k j)
 
@@ -86,7 +85,7 @@ module _ (e : Endianness) (ss : List Section) (at : ℕ → Symbol) (Y : ℕ) (s
 
   -- '11 precedes the walk of a text section.'
   pub text-by-walk : text_refusal (object_by e ss at Y) s
-      ≡ or_else (maybe (least_again (λ j. (at j).address) (text_order e ss at Y s)) none (λ j. of_symbol 11 s (at j) true)) (walk_refusal e ss at Y s (length s.bytes) 0)
+      ≡ or_else (maybe (least_again (λ j. (at j).address) (text_order e ss at Y s)) None (λ j. of_symbol 11 s (at j) true)) (walk_refusal e ss at Y s (length s.bytes) 0)
   unfolding text_refusal walk_of walk_refusal
   text-by-walk = ap (λ r. or_else r (first_in (stop_refusal s) (stops (length s.bytes) s (defined_text (object_by e ss at Y) s) 0))) (shared-by e ss at Y s)
 
@@ -94,17 +93,17 @@ module _ (e : Endianness) (ss : List Section) (at : ℕ → Symbol) (Y : ℕ) (s
   unfolding text_numbers
   numbers-by-walk = rw (shared-by e ss at Y s) (go (least_again (λ j. (at j).address) (text_order e ss at Y s)))
     where
-      go : (o : Option ℕ) → maybe (maybe o none (λ j. of_symbol 11 s (at j) true)) (kept_numbers (length s.bytes) 0) (λ r. [])
+      go : (o : Option ℕ) → maybe (maybe o None (λ j. of_symbol 11 s (at j) true)) (kept_numbers (length s.bytes) 0) (λ r. [])
           ≡ maybe o (kept_numbers (length s.bytes) 0) (λ j. [])
-      go none = refl
-      go (some j) = refl
+      go None = refl
+      go (Some j) = refl
 
   -- the numbers of an accepted text section are those of its walk
-  pub numbers-accepted : text_refusal (object_by e ss at Y) s ≡ none → text_numbers ≡ walk_numbers e ss at Y s (length s.bytes) 0
+  pub numbers-accepted : text_refusal (object_by e ss at Y) s ≡ None → text_numbers ≡ walk_numbers e ss at Y s (length s.bytes) 0
   unfolding text_numbers text_refusal walk_of walk_refusal
   numbers-accepted h = go (shared_refusal s [] (defined_text (object_by e ss at Y) s)) h
     where
-      go : (f : Option Refusal) → or_else f (first_in (stop_refusal s) (stops (length s.bytes) s (defined_text (object_by e ss at Y) s) 0)) ≡ none
+      go : (f : Option Refusal) → or_else f (first_in (stop_refusal s) (stops (length s.bytes) s (defined_text (object_by e ss at Y) s) 0)) ≡ None
           → maybe f (kept_numbers (length s.bytes) 0) (λ r. []) ≡ walk_numbers e ss at Y s (length s.bytes) 0
-      go none q = kept-all (length s.bytes) 0 q
-      go (some r) q = not_some r q
+      go None q = kept-all (length s.bytes) 0 q
+      go (Some r) q = not_some r q

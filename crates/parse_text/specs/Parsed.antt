@@ -1,8 +1,7 @@
 -- What parsing a text section answers, by the records.
-use Rattle.std.specs.Prelude.{◌≡◌, List, [], ◌∷◌, ◌++◌, ℕ, suc, ◌+◌, ◌-◌, ◌<◌, ◌≤◌, eqb, ltb, length, take, drop}
+use Rattle.std.specs.Prelude.{◌≡◌, List, [], ◌∷◌, ◌++◌, ℕ, suc, ◌+◌, ◌-◌, ◌<◌, ◌≤◌, eqb, ltb, length, take, drop, Err, None, Ok, Option, Result, Some}
 use Rattle.std.proofs.Math.Path.{refl, ap}
 use Rattle.std.proofs.Common.{sym, ◌∙◌, arith, add-zero, le-leb, take-append-drop}
-use Rattle.std.proofs.Math.Option.{Option, none, some}
 use Rattle.std.proofs.lemmas.Bool.{lt-leb}
 use Rattle.lists.specs.Tab.{tab}
 use Rattle.model.specs.declared.Endianness.{Endianness}
@@ -22,12 +21,8 @@ use Rattle.catalogue_laws.specs.Shared.{first_at, least_again}
 use Rattle.catalogue_laws.specs.Walk.{number_in, walk_refusal, walk_numbers, walk_end, walk-lost, walk-met}
 use Rattle.records.specs.View.{gap_of, symbol_at}
 use Rattle.object.specs.View.{section_from, symbol_from, section_in, symbol_in, object_in}
-use Rattle.object.specs.declared.Checked.{Checked}
 use Rattle.object.specs.Checked.{checked_of}
-use Rattle.parse_text.specs.declared.Conflict.{Conflict}
-use Rattle.parse_text.specs.declared.ParsedText.{ParsedText}
 use Rattle.parse_text.specs.Group.{address_in, text_group, text_in}
-use Rattle.parse_text.specs.Again.{conflict_of, at-number, no_number}
 use Rattle.parse_text.specs.Kept.{refusal_at, kept_numbers, kept-end, kept-lost, kept-refused, kept-met, text_numbers, text-by-walk, numbers-by-walk, numbers-accepted}
 
 abbrev pub refusal : ℕ → SectionIndex → SymbolIndex → Refusal
@@ -44,17 +39,17 @@ invalid_symbol s y o =
     (refuse (invalid_program_code y.size) 15 s.index y.index 0))
 
 -- what a check's answer says of the refusal
-pub checked-fine : (q : Option Refusal) → checked_of q ≡ Checked.Fine → q ≡ none
-checked-fine none e = refl
-checked-fine (some r) e = let z : ◌≡◌ {A = ℕ} 0 1 = cc in absurd (omega arith)
+pub checked-fine : (q : Option Refusal) → checked_of q ≡ Ok tt → q ≡ None
+checked-fine None e = refl
+checked-fine (Some r) e = let z : ◌≡◌ {A = ℕ} 0 1 = cc in absurd (omega arith)
 
-pub checked_refused : (q : Option Refusal) (r : Refusal) → checked_of q ≡ Checked.Refused r → q ≡ some r
-checked_refused none r e = let z : ◌≡◌ {A = ℕ} 0 1 = cc in absurd (omega arith)
-checked_refused (some x) r e = cc
+pub checked_refused : (q : Option Refusal) (r : Refusal) → checked_of q ≡ Err r → q ≡ Some r
+checked_refused None r e = let z : ◌≡◌ {A = ℕ} 0 1 = cc in absurd (omega arith)
+checked_refused (Some x) r e = cc
 
-abbrev pub parsed_text : Option Refusal → ℕ → ParsedText
-parsed_text none n = ParsedText.Functions n
-parsed_text (some r) n = ParsedText.Refused r
+abbrev pub parsed_text : Option Refusal → ℕ → Result ℕ Refusal
+parsed_text None n = Ok n
+parsed_text (Some r) n = Err r
 
 -- the numbers m laid into a list from place w on
 abbrev pub numbers_laid : List ℕ → ℕ → List ℕ → List ℕ
@@ -85,7 +80,7 @@ module _ (d t : List ℕ) (v : View) (s : SectionRecord) where
   data-length = length-bytes d (gap_of v) (v.at.bytes + s.bytes.at) s.bytes.length
 
   -- the number at an offset, by the search for its address
-  pub number_passed : (o : ℕ) → top < s.address + o → number_from o ≡ none
+  pub number_passed : (o : ℕ) → top < s.address + o → number_from o ≡ None
   unfolding section_from
   number_passed o l = rw (lt-leb (s.address + o) top l)
 
@@ -103,7 +98,7 @@ module _ (d t : List ℕ) (v : View) (s : SectionRecord) where
   size-by-record j = refl
 
   -- the walk at an offset
-  pub walk-at-end : (f o : ℕ) → s.bytes.length ≤ o → (walk_from f o ≡ none) × (kept_from f o ≡ [])
+  pub walk-at-end : (f o : ℕ) → s.bytes.length ≤ o → (walk_from f o ≡ None) × (kept_from f o ≡ [])
   walk-at-end f o l =
       let p : length sec.bytes ≤ o = rw data-length l in (
         walk_end endian sections (symbol_in d t v) v.symbols sec f o p,
@@ -117,26 +112,26 @@ module _ (d t : List ℕ) (v : View) (s : SectionRecord) where
     fuelled : f ≡ suc (f - 1)
     fuelled = omega arith
 
-    pub walk-at-none : number_from o ≡ none → (walk_from f o ≡ some (unknown_symbol s)) × (kept_from f o ≡ [])
+    pub walk-at-none : number_from o ≡ None → (walk_from f o ≡ Some (unknown_symbol s)) × (kept_from f o ≡ [])
     unfolding section_from
     walk-at-none q = (
       ap (λ g. walk_from g o) fuelled ∙ walk-lost endian sections (symbol_in d t v) v.symbols sec (f - 1) o before-end q,
       kept-lost endian sections (symbol_in d t v) v.symbols sec f o q,
     )
 
-    met : (j : ℕ) → number_from o ≡ some j → walk_from f o ≡ or_else (invalid_symbol s (symbol_at d t v j) o) (walk_from (f - 1) (o + (symbol_at d t v j).size))
+    met : (j : ℕ) → number_from o ≡ Some j → walk_from f o ≡ or_else (invalid_symbol s (symbol_at d t v j) o) (walk_from (f - 1) (o + (symbol_at d t v j).size))
     met j q =
         ap (λ g. walk_from g o) fuelled
         ∙ walk-met endian sections (symbol_in d t v) v.symbols sec (f - 1) o j before-end q
         ∙ rw (stop-by-record o j, size-by-record j)
 
-    pub walk-at-refused : (j : ℕ) (r : Refusal) → number_from o ≡ some j → invalid_symbol s (symbol_at d t v j) o ≡ some r → (walk_from f o ≡ some r) × (kept_from f o ≡ [])
+    pub walk-at-refused : (j : ℕ) (r : Refusal) → number_from o ≡ Some j → invalid_symbol s (symbol_at d t v j) o ≡ Some r → (walk_from f o ≡ Some r) × (kept_from f o ≡ [])
     walk-at-refused j r q e = (
       met j q ∙ rw e,
       kept-refused endian sections (symbol_in d t v) v.symbols sec f o j r q (stop-by-record o j ∙ e),
     )
 
-    pub walk-at-met : (j : ℕ) → number_from o ≡ some j → invalid_symbol s (symbol_at d t v j) o ≡ none
+    pub walk-at-met : (j : ℕ) → number_from o ≡ Some j → invalid_symbol s (symbol_at d t v j) o ≡ None
         → (walk_from f o ≡ walk_from (f - 1) (o + (symbol_at d t v j).size)) × (kept_from f o ≡ j ∷ kept_from (f - 1) (o + (symbol_at d t v j).size))
     walk-at-met j q e = (
       met j q ∙ rw e,
@@ -146,7 +141,7 @@ module _ (d t : List ℕ) (v : View) (s : SectionRecord) where
     )
 
   -- what the walk answers and leaves in the lent numbers
-  pub record Walked (out₀ : List ℕ) (w : ℕ) (r : ParsedText) (out : List ℕ) : Type 0 where
+  pub record Walked (out₀ : List ℕ) (w : ℕ) (r : Result ℕ Refusal) (out : List ℕ) : Type 0 where
     pub answer : r ≡ parsed_text (walk_from s.bytes.length 0) (w + length (kept_from s.bytes.length 0))
     pub numbers : out ≡ numbers_laid out₀ w (kept_from s.bytes.length 0)
 
@@ -156,7 +151,7 @@ module _ (d t : List ℕ) (v : View) (s : SectionRecord) where
   walked_numbers = text_numbers endian sections (symbol_in d t v) v.symbols sec
 
   -- of an accepted section they are those of its walk
-  pub numbers-of-walk : text_refusal (object_in d t v) sec ≡ none
+  pub numbers-of-walk : text_refusal (object_in d t v) sec ≡ None
       → walked_numbers ≡ walk_numbers endian sections (symbol_in d t v) v.symbols sec (length sec.bytes) 0
   unfolding walked_numbers object_in
   numbers-of-walk e = numbers-accepted endian sections (symbol_in d t v) v.symbols sec e
@@ -165,7 +160,7 @@ module _ (d t : List ℕ) (v : View) (s : SectionRecord) where
   least = least_again (address_in d t v) (text_in d t v sec)
 
   refusal_is : text_refusal (object_in d t v) sec
-      ≡ or_else (maybe least none (λ j. some (refusal 11 s.index (symbol_at d t v j).index))) (walk_from s.bytes.length 0)
+      ≡ or_else (maybe least None (λ j. Some (refusal 11 s.index (symbol_at d t v j).index))) (walk_from s.bytes.length 0)
   unfolding object_in section_from symbol_from
   refusal_is =
       text-by-walk endian sections (symbol_in d t v) v.symbols sec ∙ rw length-bytes
@@ -175,25 +170,25 @@ module _ (d t : List ℕ) (v : View) (s : SectionRecord) where
   numbers-are = numbers-by-walk endian sections (symbol_in d t v) v.symbols sec ∙ rw data-length
 
   -- what parsing a section answers and leaves in the lent numbers
-  pub record TextParsed (out₀ : List ℕ) (w : ℕ) (r : ParsedText) (out : List ℕ) : Type 0 where
+  pub record TextParsed (out₀ : List ℕ) (w : ℕ) (r : Result ℕ Refusal) (out : List ℕ) : Type 0 where
     pub answer : r ≡ parsed_text (text_refusal (object_in d t v) sec) (w + length walked_numbers)
     pub numbers : out ≡ numbers_laid out₀ w walked_numbers
 
   module _ (order : List ℕ) (lo hi : ℕ) (e : text_group d t v order lo hi ≡ text_in d t v sec) where
     -- 11
-    pub parsed-conflict : (c : Conflict) (out₀ : List ℕ) (w j : ℕ) → c ≡ conflict_of (least_again (address_in d t v) (text_group d t v order lo hi)) → c ≡ Conflict.At j
-        → TextParsed out₀ w (ParsedText.Refused (refusal 11 s.index (symbol_at d t v j).index)) out₀
+    pub parsed-conflict : (c : Option ℕ) (out₀ : List ℕ) (w j : ℕ) → c ≡ least_again (address_in d t v) (text_group d t v order lo hi) → c ≡ Some j
+        → TextParsed out₀ w (Err (refusal 11 s.index (symbol_at d t v j).index)) out₀
     parsed-conflict c out₀ w j p q =
-        let f : least ≡ some j = at-number least j (rw e at (sym p ∙ q)) in
-        let r : text_refusal (object_in d t v) sec ≡ some (refusal 11 s.index (symbol_at d t v j).index) = refusal_is ∙ rw f in
+        let f : least ≡ Some j = rw e at (sym p ∙ q) in
+        let r : text_refusal (object_in d t v) sec ≡ Some (refusal 11 s.index (symbol_at d t v j).index) = refusal_is ∙ rw f in
         let m : walked_numbers ≡ [] = numbers-are ∙ rw f in
         record { answer = rw r; numbers = rw (m, add-zero) (sym (take-append-drop w out₀)) }
 
     -- the walk
-    pub parsed-walk : (c : Conflict) (out₀ : List ℕ) (w : ℕ) (r : ParsedText) (out : List ℕ)
-        → c ≡ conflict_of (least_again (address_in d t v) (text_group d t v order lo hi)) → c ≡ Conflict.Nothing → Walked out₀ w r out → TextParsed out₀ w r out
+    pub parsed-walk : (c : Option ℕ) (out₀ : List ℕ) (w : ℕ) (r : Result ℕ Refusal) (out : List ℕ)
+        → c ≡ least_again (address_in d t v) (text_group d t v order lo hi) → c ≡ None → Walked out₀ w r out → TextParsed out₀ w r out
     parsed-walk c out₀ w r out p q g =
-        let f : least ≡ none = no_number least (rw e at (sym p ∙ q)) in
+        let f : least ≡ None = rw e at (sym p ∙ q) in
         let a : text_refusal (object_in d t v) sec ≡ walk_from s.bytes.length 0 = refusal_is ∙ rw f in
         let m : walked_numbers ≡ kept_from s.bytes.length 0 = numbers-are ∙ rw f in
         record { answer = rw (a, m) g.answer; numbers = rw m g.numbers }

@@ -1,8 +1,7 @@
 -- One step of the search for a text address, by the record at the place it stands at.
-use Rattle.std.specs.Prelude.{◌≡◌, Bool, true, false, List, ◌∷◌, ℕ, ◌+◌, ◌<◌, ◌≤◌, length, get_or}
+use Rattle.std.specs.Prelude.{◌≡◌, Bool, true, false, List, ◌∷◌, ℕ, ◌+◌, ◌<◌, ◌≤◌, length, get_or, None, Some}
 use Rattle.std.proofs.Common.{sym, ◌∙◌}
 use Rattle.std.proofs.Math.Path.{ap}
-use Rattle.std.proofs.Math.Option.{none, some}
 use Rattle.object_view.specs.declared.View.{View}
 use Rattle.model.specs.declared.SectionRecord.{SectionRecord}
 use Rattle.model.specs.declared.SymbolRecord.{SymbolRecord}
@@ -20,7 +19,7 @@ module _ (d t : List ℕ) (v : View) (s : SectionRecord) (order : List ℕ) (k h
   abbrev pub SearchStands : Type 0
   SearchStands = Ahead (address_in d t v) all a (text_group d t v order k hi)
 
-  pub search-end : hi ≤ k → k ≤ hi → SearchStands → first_at (address_in d t v) a all ≡ none
+  pub search-end : hi ≤ k → k ≤ hi → SearchStands → first_at (address_in d t v) a all ≡ None
   search-end p q g = ahead_none (address_in d t v) all a (rw (group-end d t v order k hi p q) at g)
 
   module _ (p : k < hi) (q : hi ≤ length order) (y : SymbolRecord) (e : y ≡ symbol_at d t v (get_or order k 0)) where
@@ -42,11 +41,11 @@ module _ (d t : List ℕ) (v : View) (s : SectionRecord) (order : List ℕ) (k h
       pub search-below : y.address < a → Ahead (address_in d t v) all a (text_group d t v order (k + 1) hi)
       search-below l = ahead-below (address_in d t v) all a (get_or order k 0) (text_group d t v order (k + 1) hi) (rw here l) stands
 
-      pub search-met : y.address ≡ a → first_at (address_in d t v) a all ≡ some (get_or order k 0)
+      pub search-met : y.address ≡ a → first_at (address_in d t v) a all ≡ Some (get_or order k 0)
       search-met l = ahead-met (address_in d t v) all a (get_or order k 0) (text_group d t v order (k + 1) hi) (here ∙ l) stands
 
       pub search-past : (b : ℕ) → y.address ≡ a → a < b → Ahead (address_in d t v) all b (text_group d t v order (k + 1) hi)
       search-past b l m = ahead_past (address_in d t v) all a b (get_or order k 0) (text_group d t v order (k + 1) hi) (here ∙ l) m stands
 
-      pub search-lost : a < y.address → first_at (address_in d t v) a all ≡ none
+      pub search-lost : a < y.address → first_at (address_in d t v) a all ≡ None
       search-lost l = ahead-lost (address_in d t v) all a (get_or order k 0) (text_group d t v order (k + 1) hi) (rw here l) stands

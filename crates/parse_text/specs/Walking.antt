@@ -1,7 +1,6 @@
 -- What holds between two steps of the walk of a text section, and what it answers at each way out.
-use Rattle.std.specs.Prelude.{◌≡◌, refl, Bool, true, false, List, [], ◌++◌, ℕ, suc, ◌+◌, ◌-◌, ◌<◌, ◌≤◌, eqb, ltb, length, take, drop, set}
+use Rattle.std.specs.Prelude.{◌≡◌, refl, Bool, true, false, List, [], ◌++◌, ℕ, suc, ◌+◌, ◌-◌, ◌<◌, ◌≤◌, eqb, ltb, length, take, drop, set, None, Option, Some}
 use Rattle.std.proofs.Common.{sym, ap, ◌∙◌, append_assoc, append-nil, arith, add-one, ltb-false, length-append, length-set, take-append-drop, length-take-le, take-suc-set, drop-set-lt, drop-drop}
-use Rattle.std.proofs.Math.Option.{Option, none, some}
 use Rattle.std.proofs.lemmas.Bool.{eqb-false}
 use Rattle.lists.specs.Tab.{tab}
 use Rattle.lists.specs.Tests.{not_some}
@@ -21,12 +20,12 @@ use Rattle.parse_text.specs.Ahead.{Ahead, ahead-start}
 use Rattle.parse_text.specs.Parsed.{invalid_symbol, unknown_symbol, parsed_text, walk_from, kept_from, number_from, walk-at-end, walk-at-none, walk-at-refused, walk-at-met, Walked}
 
 -- a symbol that is not refused has bytes, and they end inside the data
-pub valid-size : (s : SectionRecord) (y : SymbolRecord) (o : ℕ) → invalid_symbol s y o ≡ none → (0 < y.size) × (o + y.size ≤ s.bytes.length)
+pub valid-size : (s : SectionRecord) (y : SymbolRecord) (o : ℕ) → invalid_symbol s y o ≡ None → (0 < y.size) × (o + y.size ≤ s.bytes.length)
 unfolding invalid_symbol
 valid-size s y o e = go (eqb y.size 0) (ltb s.bytes.length (o + y.size)) refl refl e
   where
     go : (a b : Bool) → eqb y.size 0 ≡ a → ltb s.bytes.length (o + y.size) ≡ b
-        → or_else (refuse a 13 s.index y.index 0) (or_else (refuse b 14 s.index y.index 0) (refuse (invalid_program_code y.size) 15 s.index y.index 0)) ≡ none
+        → or_else (refuse a 13 s.index y.index 0) (or_else (refuse b 14 s.index y.index 0) (refuse (invalid_program_code y.size) 15 s.index y.index 0)) ≡ None
         → (0 < y.size) × (o + y.size ≤ s.bytes.length)
     go true b p q f = not_some _ f
     go false true p q f = not_some _ f
@@ -88,24 +87,24 @@ module _ (d t : List ℕ) (v : View) (s : SectionRecord) (order : List ℕ) (lo 
               ∙ rw (← front, g.rest, reach, append_assoc);
         }
 
-    pub walked_end : s.bytes.length ≤ o → Walked d t v s out₀ w (parsed_text none n) out
-    walked_end l = let m = walk-at-end d t v s g.steps o l in done none m.0 m.1
+    pub walked_end : s.bytes.length ≤ o → Walked d t v s out₀ w (parsed_text None n) out
+    walked_end l = let m = walk-at-end d t v s g.steps o l in done None m.0 m.1
 
     module _ (l : o < s.bytes.length) where
       more : 0 < g.steps
       more = let m = g.enough in omega arith
 
       -- 12
-      pub walked-unknown : number_from d t v s o ≡ none → Walked d t v s out₀ w (parsed_text (some (unknown_symbol s)) n) out
-      walked-unknown q = let m = walk-at-none d t v s g.steps o l more q in done (some (unknown_symbol s)) m.0 m.1
+      pub walked-unknown : number_from d t v s o ≡ None → Walked d t v s out₀ w (parsed_text (Some (unknown_symbol s)) n) out
+      walked-unknown q = let m = walk-at-none d t v s g.steps o l more q in done (Some (unknown_symbol s)) m.0 m.1
 
       -- 13 to 15
-      pub walked-invalid : (j : ℕ) (r : Refusal) → number_from d t v s o ≡ some j → invalid_symbol s (symbol_at d t v j) o ≡ some r
-          → Walked d t v s out₀ w (parsed_text (some r) n) out
-      walked-invalid j r q e = let m = walk-at-refused d t v s g.steps o l more j r q e in done (some r) m.0 m.1
+      pub walked-invalid : (j : ℕ) (r : Refusal) → number_from d t v s o ≡ Some j → invalid_symbol s (symbol_at d t v j) o ≡ Some r
+          → Walked d t v s out₀ w (parsed_text (Some r) n) out
+      walked-invalid j r q e = let m = walk-at-refused d t v s g.steps o l more j r q e in done (Some r) m.0 m.1
 
       -- the symbol met is kept
-      pub walking-next : (j i : ℕ) → number_from d t v s o ≡ some j → invalid_symbol s (symbol_at d t v j) o ≡ none → k < i → i ≤ hi
+      pub walking-next : (j i : ℕ) → number_from d t v s o ≡ Some j → invalid_symbol s (symbol_at d t v j) o ≡ None → k < i → i ≤ hi
           → Ahead (address_in d t v) (text_in d t v (section_from d t v s)) (s.address + (o + (symbol_at d t v j).size)) (text_group d t v order i hi)
           → Walking (o + (symbol_at d t v j).size) i (n + 1) (set out n j)
       walking-next j i q e a b c =

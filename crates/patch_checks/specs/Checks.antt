@@ -1,10 +1,9 @@
 -- Numbers 18 to 23, by what is read of an entry, of the symbol that bears its name and of the map of the symbol's section.
 use Rattle.std.proofs.Math.Path.{◌≡◌, refl, ap}
-use Rattle.std.proofs.Common.{sym, ◌∙◌, arith, ltb-true, ltb-false, lt-ltb, le-ltb, length-take-le}
-use Rattle.std.specs.Prelude.{Bool, not, ◌||◌, ℕ, zero, suc, ◌+◌, ◌-◌, ◌<◌, ◌≤◌, eqb, ltb, length, get_or, take, drop}
+use Rattle.std.proofs.Common.{sym, ◌∙◌, arith, lt-ltb, le-ltb, length-take-le}
+use Rattle.std.specs.Prelude.{⊤, Bool, not, ◌||◌, ℕ, zero, suc, ◌+◌, ◌-◌, ◌<◌, ◌≤◌, eqb, ltb, length, get_or, take, drop, Err, None, Ok, Option, Result, Some}
 use Rattle.std.proofs.Math.Bool.{true, false}
 use mathlib.Core.List.{List, [], ◌∷◌, map}
-use Rattle.std.proofs.Math.Option.{Option, none, some}
 use Rattle.std.proofs.Math.Numerals.{add-one}
 use Rattle.std.proofs.Math.Seq.{get_or-take}
 use Rattle.lists.specs.Tab.{tab}
@@ -20,7 +19,6 @@ use Rattle.model.specs.PatchList.{patches_of}
 use Rattle.model.specs.Refusals.{of_entry, passes, bearers, place_refusal, bearer_refusal, entry_refusal, patch_refusal}
 use Rattle.model.specs.Symbols.{top}
 use Rattle.catalogue_laws.specs.SectionsPrograms.{All}
-use Rattle.object.specs.declared.Checked.{Checked}
 use Rattle.object.specs.Checked.{checked_of}
 use Rattle.object.specs.View.{symbol_in, symbol_from, object_in}
 use Rattle.catalogue_numbers.specs.Numbers.{map_at}
@@ -34,18 +32,6 @@ use Rattle.patch_checks.specs.Entries.{entry_count, patch_at, patches-are}
 
 abbrev pub past : ℕ → ℕ → ℕ → Bool
 past n at size = ltb n (at + size) || ltb top (at + size)
-
--- no sum is needed
-module _ (n at size : ℕ) where
-  pub past-far : n < at → true ≡ past n at size
-  past-far h = rw (lt-ltb n (at + size) (omega arith))
-
-  pub past-rest : n ≤ top → at ≤ n → ltb (n - at) size ≡ past n at size
-  past-rest t h = go (ltb (n - at) size) refl
-    where
-      go : (b : Bool) → ltb (n - at) size ≡ b → b ≡ past n at size
-      go true q = let l : n - at < size = ltb-true _ _ q in rw (lt-ltb n (at + size) (omega arith))
-      go false q = let l : size ≤ n - at = ltb-false _ _ q in rw (le-ltb n (at + size) (omega arith)) (sym (le-ltb top (at + size) (omega arith)))
 
 all_take : (P : ℕ → Type 0) (n : ℕ) (l : List ℕ) → n ≤ length l → ((k : ℕ) → k < n → P (get_or l k 0)) → All P (take n l)
 all_take P zero l h f = tt
@@ -148,33 +134,33 @@ module _ (o : Object) (ms : List Map) (entries lent : List ℕ) where
   rest_all = ap (patch_refusal o ms 1) (patches-are entries lent)
 
   module _ (e : ℕ) where
-    module _ (l : e < entry_count entries) (w : Checked) (is : w ≡ checked_of (entry_refusal o ms (e + 1) (patch_at entries lent e))) where
-      pub rest-refused : (r : Refusal) → w ≡ Checked.Refused r → w ≡ checked_of (rest_at e)
+    module _ (l : e < entry_count entries) (w : Result ⊤ Refusal) (is : w ≡ checked_of (entry_refusal o ms (e + 1) (patch_at entries lent e))) where
+      pub rest-refused : (r : Refusal) → w ≡ Err r → w ≡ checked_of (rest_at e)
       unfolding rest_at patch_refusal
       rest-refused r q = rw (drop-tab-next (patch_at entries lent) (entry_count entries) e l) (go (entry_refusal o ms (e + 1) (patch_at entries lent e)) is)
         where
           go : (a : Option Refusal) → w ≡ checked_of a → w ≡ checked_of (or_else a (patch_refusal o ms (suc (e + 1)) (drop (e + 1) (tab (patch_at entries lent) (entry_count entries)))))
-          go none f = let z : ◌≡◌ {A = ℕ} 0 1 = cc in absurd (omega arith)
-          go (some x) f = f
+          go None f = let z : ◌≡◌ {A = ℕ} 0 1 = cc in absurd (omega arith)
+          go (Some x) f = f
 
-      pub rest-next : w ≡ Checked.Fine → (entry_refusal o ms (e + 1) (patch_at entries lent e) ≡ none) × (rest_at e ≡ rest_at (e + 1))
+      pub rest-next : w ≡ (Ok tt) → (entry_refusal o ms (e + 1) (patch_at entries lent e) ≡ None) × (rest_at e ≡ rest_at (e + 1))
       unfolding rest_at patch_refusal
       rest-next q = go (entry_refusal o ms (e + 1) (patch_at entries lent e)) refl is
         where
           go : (a : Option Refusal) → entry_refusal o ms (e + 1) (patch_at entries lent e) ≡ a → w ≡ checked_of a
-              → (entry_refusal o ms (e + 1) (patch_at entries lent e) ≡ none) × (rest_at e ≡ rest_at (e + 1))
-          go none g f = (g, rw (drop-tab-next (patch_at entries lent) (entry_count entries) e l, g, add-one (e + 1)))
-          go (some x) g f = let z : ◌≡◌ {A = ℕ} 0 1 = cc in absurd (omega arith)
+              → (entry_refusal o ms (e + 1) (patch_at entries lent e) ≡ None) × (rest_at e ≡ rest_at (e + 1))
+          go None g f = (g, rw (drop-tab-next (patch_at entries lent) (entry_count entries) e l, g, add-one (e + 1)))
+          go (Some x) g f = let z : ◌≡◌ {A = ℕ} 0 1 = cc in absurd (omega arith)
 
-    pub rest-none : e < entry_count entries → rest_at e ≡ none → (entry_refusal o ms (e + 1) (patch_at entries lent e) ≡ none) × (rest_at (e + 1) ≡ none)
+    pub rest-none : e < entry_count entries → rest_at e ≡ None → (entry_refusal o ms (e + 1) (patch_at entries lent e) ≡ None) × (rest_at (e + 1) ≡ None)
     unfolding rest_at patch_refusal
     rest-none l z = go (entry_refusal o ms (e + 1) (patch_at entries lent e)) (rw (drop-tab-next (patch_at entries lent) (entry_count entries) e l) at z)
       where
-        go : (a : Option Refusal) → or_else a (patch_refusal o ms (suc (e + 1)) (drop (e + 1) (tab (patch_at entries lent) (entry_count entries)))) ≡ none
-            → (a ≡ none) × (patch_refusal o ms (e + 1 + 1) (drop (e + 1) (tab (patch_at entries lent) (entry_count entries))) ≡ none)
-        go none f = (refl, rw (add-one (e + 1)) f)
-        go (some x) f = not_some x f
+        go : (a : Option Refusal) → or_else a (patch_refusal o ms (suc (e + 1)) (drop (e + 1) (tab (patch_at entries lent) (entry_count entries)))) ≡ None
+            → (a ≡ None) × (patch_refusal o ms (e + 1 + 1) (drop (e + 1) (tab (patch_at entries lent) (entry_count entries))) ≡ None)
+        go None f = (refl, rw (add-one (e + 1)) f)
+        go (Some x) f = not_some x f
 
-    pub rest_end : entry_count entries ≤ e → rest_at e ≡ none
+    pub rest_end : entry_count entries ≤ e → rest_at e ≡ None
     unfolding rest_at patch_refusal
     rest_end l = rw (drop-tab-none (patch_at entries lent) (entry_count entries) e l)

@@ -1,7 +1,7 @@
 -- The entries of a patch list by number, and the patches that they stand for.
 use Rattle.std.specs.Prelude.{◌≡◌, Bool, true, false, cond, ◌&&◌, leb, ltb, length, take}
 use Rattle.std.proofs.Math.Path.{refl, ap}
-use Rattle.std.proofs.Common.{sym, ◌∙◌, ⊎_elim, not-suc-le-zero, le_of_suc-le-suc, le_trans, eq-or-lt_of_le, length-take, length-drop, drop-drop, get_or-take, get_or-drop}
+use Rattle.std.proofs.Common.{◌∙◌, ⊎_elim, not-suc-le-zero, le_of_suc-le-suc, le_trans, eq-or-lt_of_le, length-take, length-drop, drop-drop, get_or-take, get_or-drop}
 use mathlib.Core.List.{List}
 use Prim.Native.Nat.{ℕ, zero, suc, ◌+◌, ◌-◌, ◌*◌, ◌/◌, ◌<◌, ◌≤◌, min}
 use native.Mathlib.Omega.{arith}
@@ -80,18 +80,6 @@ patch_by lent x =
 
 abbrev pub patch_at : List ℕ → List ℕ → ℕ → Patch
 patch_at entries lent e = patch_by lent (patch_entry_at entries e)
-
--- a range lies inside, by what is left behind its start
-module _ (at m n : ℕ) where
-  pub inside-far : n < at → false ≡ inside at m n
-  inside-far h = sym (lt-leb (at + m) n (omega arith))
-
-  pub inside-rest : at ≤ n → leb m (n - at) ≡ inside at m n
-  inside-rest h = go (leb m (n - at)) refl
-    where
-      go : (b : Bool) → leb m (n - at) ≡ b → b ≡ inside at m n
-      go true q = let l : m ≤ n - at = leb-true _ _ q in sym (le-leb (at + m) n (omega arith))
-      go false q = let l : n - at < m = leb-false _ _ q in sym (lt-leb (at + m) n (omega arith))
 
 module _ {A : Type 0} (f : List ℕ → A) (w : ℕ) where
   length-records : (n : ℕ) (s : List ℕ) → length (records f w n s) ≡ n

@@ -1,7 +1,7 @@
 // A patch list as it is lent, and what refuses it: numbers 18 to 23.
 #![tactic(auto)]
 
-ghost use Rattle.std.specs.Prelude.{◌≡◌, not, ◌^◌, ◌<◌, eqb, get_or};
+ghost use Rattle.std.specs.Prelude.{◌≡◌, not, ◌^◌, ◌<◌, eqb, get_or, Err};
 ghost use Rattle.model.specs.Bytes.{inside, or_else};
 ghost use Rattle.model.specs.Refusals.{no_section, no_symbol, of_entry, place_refusal, entry_refusal, patch_refusal};
 ghost use Rattle.model.specs.PatchList.{patches_of};
@@ -13,7 +13,6 @@ ghost use Rattle.patch_checks.specs.Checks.{past, maps_of_numbers, Sited};
 
 use bytes_maps::own_length;
 use model::{Range, Refusal, SectionIndex, SymbolIndex, SymbolRecord};
-use object::Checked;
 use object_view::View;
 use patch_maps::place_of;
 use patch_symbols::{Bearer, bearer_of};
@@ -32,7 +31,7 @@ pub struct Entry {
 fn number(entries: &[u64], i: usize) -> u64
     ensures { result ≡ get_or entries.now i 0 }
 {
-    if i < entries.len() { entries[i] } else { 0 }
+    entries.get(i).copied().unwrap_or(0)
 }
 
 // Entry e, counted from 0.
@@ -56,26 +55,24 @@ pub fn entry_at(entries: &[u64], e: usize) -> Entry
 }
 
 // The longer of a name so far and one of n bytes, unless it is longer than any name of a symbol.
+#[tactic(auto, unfolding(crate::specs::Entries::longer))]
 fn longer(so_far: u32, n: u64) -> u32
     ensures { result ≡ longer_of so_far n }
 {
     if n > 65535 {
-        return so_far;
+        so_far
+    } else {
+        so_far.max(n as u32)
     }
-    let m = n as u32;
-    if so_far < m { m } else { so_far }
 }
 
 // How many bytes the longest name of the list has that a symbol may bear.
 pub fn longest_name(entries: &[u64]) -> u32
     ensures { result ≡ longest entries.now (entry_count entries.now) }
 {
-    let mut e: usize = 0;
     let mut bytes: u32 = 0;
-    while e < (entries.len() + 4) / 5 {
-        let x = entry_at(entries, e);
-        bytes = longer(bytes, x.name.length);
-        e += 1;
+    for e in 0..entries.len().div_ceil(5) {
+        bytes = longer(bytes, entry_at(entries, e).name.length);
     }
     bytes
 }
@@ -84,26 +81,15 @@ pub fn longest_name(entries: &[u64]) -> u32
 fn lies_inside(r: Range, n: u64) -> bool
     ensures { result ≡ inside r.at r.length n }
 {
-    if r.at <= n {
-        r.length <= n - r.at
-    } else {
-        false
-    }
+    r.at <= n && r.length <= n - r.at
 }
 
+#[tactic(auto, unfolding(crate::specs::Entries::patch_by))]
 fn is_lent(x: Entry, patches: &[u8]) -> bool
     ensures { result ≡ (patch_by patches.now x).inside }
 {
     let n = patches.len() as u64;
-    if !x.whole {
-        return false;
-    }
-    let name = x.name;
-    if !lies_inside(name, n) {
-        return false;
-    }
-    let bytes = x.bytes;
-    lies_inside(bytes, n)
+    x.whole && lies_inside(x.name, n) && lies_inside(x.bytes, n)
 }
 
 // Whether a symbol's address plus size passes n bytes or 2^64 - 1. No sum is made.
@@ -111,14 +97,14 @@ fn passes(n: usize, at: u64, size: u64) -> bool
     ensures { result ≡ past n at size }
 {
     let m = n as u64;
-    if at <= m { m - at < size } else { true }
+    at > m || m - at < size
 }
 
 // Refused, with the entry named.
-fn of_entry(number: u32, entry: u64) -> Checked
-    ensures { result ≡ Checked.Refused (record { number = number; section = no_section; symbol = no_symbol; entry = entry }) }
+fn of_entry(number: u32, entry: u64) -> Result<(), Refusal>
+    ensures { result ≡ Err (record { number = number; section = no_section; symbol = no_symbol; entry = entry }) }
 {
-    Checked::Refused(Refusal {
+    Err(Refusal {
         number,
         section: SectionIndex(0),
         symbol: SymbolIndex(0),
@@ -136,7 +122,7 @@ fn place_refusal(
     by: &[u32],
     y: SymbolRecord,
     e: u64,
-) -> Checked
+) -> Result<(), Refusal>
     requires { Sited d.now t.now v maps.now n by.now }
     ensures { result
         ≡ checked_of
@@ -150,7 +136,7 @@ fn place_refusal(
     if passes(own, y.address, y.size) {
         return of_entry(23, e);
     }
-    Checked::Fine
+    Ok(())
 }
 
 // Numbers 21 to 23, for data of so many bytes.
@@ -164,7 +150,7 @@ fn symbol_refusal(
     j: u32,
     length: u64,
     e: u64,
-) -> Checked
+) -> Result<(), Refusal>
     requires { Sited d.now t.now v maps.now n by.now }
     ensures { result
         ≡ checked_of
@@ -190,29 +176,20 @@ fn entry_refusal(
     n: usize,
     by: &[u32],
     e: u64,
-) -> Checked
+) -> Result<(), Refusal>
     requires { Sited d.now t.now v maps.now n by.now × Searchable d.now t.now v symbols.now x.name.length }
     ensures { result
         ≡ checked_of
         (entry_refusal (object_in d.now t.now v) (maps_of_numbers d.now t.now v maps.now n) e
         (patch_by patches.now x)) }
 {
-    if !is_lent(x, patches) {
-        return of_entry(18, e);
-    }
-    if x.mark > 1 {
+    if !is_lent(x, patches) || x.mark > 1 {
         return of_entry(18, e);
     }
     let at = x.name.at as usize;
     let end = at + x.name.length as usize;
     match bearer_of(d, t, v, symbols, &patches[at..end]) {
-        Bearer::Nothing => {
-            if x.mark == 1 {
-                of_entry(20, e)
-            } else {
-                Checked::Fine
-            }
-        }
+        Bearer::Nothing => { if x.mark == 1 { of_entry(20, e) } else { Ok(()) } }
         Bearer::One(j) => symbol_refusal(d, t, v, maps, n, by, j, x.bytes.length, e),
         Bearer::Several => of_entry(19, e),
     }
@@ -229,24 +206,18 @@ pub fn patch_refusal(
     maps: &[u32],
     n: usize,
     by: &[u32],
-) -> Checked
+) -> Result<(), Refusal>
     requires { Sited d.now t.now v maps.now n by.now × NamesFound d.now t.now v entries.now symbols.now }
     ensures { result
         ≡ checked_of
         (patch_refusal (object_in d.now t.now v) (maps_of_numbers d.now t.now v maps.now n) 1
         (patches_of entries.now patches.now)) }
 {
-    let count = (entries.len() + 4) / 5;
-    let mut e: usize = 0;
-    while e < count {
+    let count = entries.len().div_ceil(5);
+    for e in 0..count {
         let x = entry_at(entries, e);
         let entry = (e + 1) as u64;
-        if let Checked::Refused(r) = entry_refusal(
-            d, t, v, x, patches, symbols, maps, n, by, entry,
-        ) {
-            return Checked::Refused(r);
-        }
-        e += 1;
+        entry_refusal(d, t, v, x, patches, symbols, maps, n, by, entry)?;
     }
-    Checked::Fine
+    Ok(())
 }

@@ -1,10 +1,9 @@
 -- What an accepted entry does to the maps' own bytes as they lie one after the other.
-use Rattle.std.specs.Prelude.{◌≡◌, Bool, not, ℕ, ◌+◌, ◌-◌, ◌*◌, ◌<◌, ◌≤◌, ltb, get_or, take}
+use Rattle.std.specs.Prelude.{◌≡◌, Bool, not, ℕ, ◌+◌, ◌-◌, ◌*◌, ◌<◌, ◌≤◌, ltb, get_or, take, None, Option}
 use Rattle.std.proofs.Math.Path.{refl, ap}
 use Rattle.std.proofs.Common.{sym, ◌∙◌, le_refl, length-take-le, take_all, get_or-take}
 use Rattle.std.proofs.Math.Bool.{true, false, cond}
 use mathlib.Core.List.{List, [], ◌∷◌, ◌++◌, map}
-use Rattle.std.proofs.Math.Option.{Option, none}
 use native.Mathlib.Omega.{arith}
 use borrow.Author.Tests.{eq-eqb, eqb-true, ltb-true, ltb-false, not-false}
 use Rattle.std.proofs.Math.Dec.{eqb}
@@ -92,7 +91,7 @@ module _ (d t : List ℕ) (v : View) where
 
   -- ---- what acceptance says of an entry
 
-  module _ (ms : List Map) (e : ℕ) (p : Patch) (ok : entry_refusal (object_in d t v) ms e p ≡ none) where
+  module _ (ms : List Map) (e : ℕ) (p : Patch) (ok : entry_refusal (object_in d t v) ms e p ≡ None) where
     pub inside-ok : p.inside ≡ true
     inside-ok = go p.inside refl
       where
@@ -107,25 +106,25 @@ module _ (d t : List ℕ) (v : View) where
         go true q = not_some _ (sym (other-mark d t v ms e p (ltb-true 1 p.mark q)) ∙ ok)
         go false q = ltb-false 1 p.mark q
 
-    bearer-ok : (b : Bearer) → b ≡ bearer_of (bearers_in d t v p.name) → entry_fault d t v ms e (length p.bytes) p.mark b ≡ none
+    bearer-ok : (b : Bearer) → b ≡ bearer_of (bearers_in d t v p.name) → entry_fault d t v ms e (length p.bytes) p.mark b ≡ None
     bearer-ok b f = sym (by-bearer d t v ms e p inside-ok mark-ok b f) ∙ ok
 
     pub not-several : Bearer.Several ≡ bearer_of (bearers_in d t v p.name) → ⊥
     not-several f = not_some _ (bearer-ok Bearer.Several f)
 
     module _ (j : ℕ) (one : Bearer.One j ≡ bearer_of (bearers_in d t v p.name)) where
-      two_none : (b : Bool) (r : Option Refusal) → or_else (of_entry 21 e b) r ≡ none → (b ≡ false) × (r ≡ none)
+      two_none : (b : Bool) (r : Option Refusal) → or_else (of_entry 21 e b) r ≡ None → (b ≡ false) × (r ≡ None)
       two_none true r q = not_some _ q
       two_none false r q = (refl, q)
 
-      both : (not (eqb (length p.bytes) (symbol_in d t v j).size) ≡ false) × (place_refusal ms e (symbol_in d t v j) ≡ none)
+      both : (not (eqb (length p.bytes) (symbol_in d t v j).size) ≡ false) × (place_refusal ms e (symbol_in d t v j) ≡ None)
       both = two_none (not (eqb (length p.bytes) (symbol_in d t v j).size)) (place_refusal ms e (symbol_in d t v j)) (bearer-ok (Bearer.One j) one)
 
       pub size_ok : length p.bytes ≡ (symbol_at d t v j).size
       unfolding symbol_from
       size_ok = eqb-true (length p.bytes) (symbol_at d t v j).size (not-false _ both.0)
 
-      pub place_ok : place_refusal ms e (symbol_from d t v (symbol_at d t v j)) ≡ none
+      pub place_ok : place_refusal ms e (symbol_from d t v (symbol_at d t v j)) ≡ None
       place_ok = both.1
 
   -- ---- the entry acts
@@ -186,7 +185,7 @@ module _ (d t : List ℕ) (v : View) where
         ∙ own-place (map_at d t v) numbers q rs.at own (rw numbers-length l)
 
     -- of a symbol whose place is accepted
-    module _ (y : SymbolRecord) (e : ℕ) (ok : place_refusal (maps_of_numbers d t v maps n) e (symbol_from d t v y) ≡ none) where
+    module _ (y : SymbolRecord) (e : ℕ) (ok : place_refusal (maps_of_numbers d t v maps n) e (symbol_from d t v y) ≡ None) where
       abbrev place : ℕ
       place = map_place_of d t v by y
 
@@ -229,7 +228,7 @@ module _ (d t : List ℕ) (v : View) where
     fit : (r : ℕ) → r < length numbers → MapFits d t v (get_or numbers r 0)
     fit r l = let k : r < n = rw numbers-length at l in rw (get_or-take n maps r 0 k) (s.fits r k)
 
-    module _ (alone : Alone d t v numbers) (ps : List Patch) (p : Patch) (e : ℕ) (ok : entry_refusal (object_in d t v) (maps_of_numbers d t v maps n) e p ≡ none)
+    module _ (alone : Alone d t v numbers) (ps : List Patch) (p : Patch) (e : ℕ) (ok : entry_refusal (object_in d t v) (maps_of_numbers d t v maps n) e p ≡ None)
         (j : ℕ) (one : Bearer.One j ≡ bearer_of (bearers_in d t v p.name)) where
       abbrev y : SymbolRecord
       y = symbol_at d t v j
@@ -237,7 +236,7 @@ module _ (d t : List ℕ) (v : View) where
       abbrev q : ℕ
       q = map_place_of d t v by y - 1
 
-      accepted : place_refusal (maps_of_numbers d t v maps n) e (symbol_from d t v y) ≡ none
+      accepted : place_refusal (maps_of_numbers d t v maps n) e (symbol_from d t v y) ≡ None
       accepted = place_ok (maps_of_numbers d t v maps n) e p ok j one
 
       found : mapped d t v maps n by s y e (map_place_of d t v by y) refl (some-map y e accepted)
@@ -297,7 +296,7 @@ module _ (d t : List ℕ) (v : View) where
         ∙ each-length (own_by (tab (patch_at entries lent) e)) (own_bytes d t v) (λ k. same_length (object_in d t v) (tab (patch_at entries lent) e) (map_at d t v k)) (take n maps)
 
     module _ (by : List ℕ) (s : Sited d t v maps n by) (own : ℕ) (rows : List ℕ) (rs : Rows maps n own rows)
-        (ok : entry_refusal (object_in d t v) (maps_of_numbers d t v maps n) (e + 1) (patch_at entries lent e) ≡ none)
+        (ok : entry_refusal (object_in d t v) (maps_of_numbers d t v maps n) (e + 1) (patch_at entries lent e) ≡ None)
         (j : ℕ) (one : Bearer.One j ≡ bearer_of (bearers_in d t v (patch_at entries lent e).name)) where
       module _ (y : SymbolRecord) (b vs : List ℕ) (is-symbol : y ≡ symbol_at d t v j) (is-now : b ≡ own_after entries lent maps n e) (is-given : vs ≡ (patch_at entries lent e).bytes) where
         pub after-reached : MapReached by rows own y (length vs) (length b)

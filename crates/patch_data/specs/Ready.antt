@@ -1,8 +1,7 @@
 -- What is lent to the act, for the maps of the object's own table.
-use Rattle.std.specs.Prelude.{◌≡◌, refl, List, ◌++◌, map, ℕ, ◌*◌, ◌<◌, ◌≤◌, get_or, take}
+use Rattle.std.specs.Prelude.{◌≡◌, refl, List, ◌++◌, map, ℕ, ◌*◌, ◌<◌, ◌≤◌, get_or, take, None}
 use Rattle.std.proofs.Common.{sym, ◌∙◌, le_refl, get_or-take}
 use Rattle.std.proofs.Math.Path.{ap}
-use Rattle.std.proofs.Math.Option.{none}
 use Rattle.std.proofs.Math.ListN.{length}
 use Rattle.std.proofs.lemmas.List.{length-map}
 use Rattle.std.proofs.Math.Seq.{take_at, take-length, length-take-le}
@@ -46,7 +45,7 @@ module _ (d t : List ℕ) (v : View) where
 
   -- what is left of the checks at entry e
   abbrev pub checks_at : List ℕ → List ℕ → ℕ → Type 0
-  checks_at entries lent e = rest_at (object_in d t v) (maps_of_numbers d t v (map_numbers d t v) map_count) entries lent e ≡ none
+  checks_at entries lent e = rest_at (object_in d t v) (maps_of_numbers d t v (map_numbers d t v) map_count) entries lent e ≡ None
 
   module _ (readable : Readable d t v) where
     maps-are : maps_of_numbers d t v (map_numbers d t v) map_count ≡ object_maps
@@ -66,7 +65,7 @@ module _ (d t : List ℕ) (v : View) where
           ∙ ap (λ ms. each map_own (patched_maps (object_in d t v) (patches_of entries lent) ms)) maps-are
           ∙ ap (λ c. each map_own c.maps) (sym (maps-patched (object_in d t v) (patches_of entries lent) (catalogue_of (object_in d t v))))
 
-      pub checks-all : patch_refusal (object_in d t v) object_maps 1 (patches_of entries lent) ≡ none → checks_at entries lent 0
+      pub checks-all : patch_refusal (object_in d t v) object_maps 1 (patches_of entries lent) ≡ None → checks_at entries lent 0
       checks-all z =
           sym (rest_all (object_in d t v) (maps_of_numbers d t v (map_numbers d t v) map_count) entries lent)
           ∙ ap (λ ms. patch_refusal (object_in d t v) ms 1 (patches_of entries lent)) maps-are

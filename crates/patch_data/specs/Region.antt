@@ -1,15 +1,14 @@
 -- Pieces laid one after the other: bytes stored inside one of them, and the places that the rows of the map table say.
 use Rattle.std.specs.Prelude.{◌≡◌, take, drop}
 use Rattle.std.proofs.Math.Path.{refl, sym, ap}
-use Rattle.std.proofs.Common.{◌∙◌, le_refl, not-suc-le-zero, le_of_suc-le-suc, add-zero, drop_of_length-le, drop-drop}
-use mathlib.Core.List.{List, [], ◌∷◌, ◌++◌, map, append_assoc, append-nil}
+use Rattle.std.proofs.Common.{◌∙◌, not-suc-le-zero, le_of_suc-le-suc, add-zero, drop-drop}
+use mathlib.Core.List.{List, [], ◌∷◌, ◌++◌, map, append_assoc}
 use Prim.Native.Nat.{ℕ, zero, suc, ◌+◌, ◌*◌, ◌<◌, ◌≤◌}
 use native.Mathlib.Omega.{arith}
 use Rattle.std.proofs.Math.ListN.{length, get_or, length-append}
 use Rattle.std.proofs.Math.Seq.{sets, take-append-add, drop-append-add, get_or-append-add}
 use Rattle.std.proofs.lemmas.List.Edits.{sets-eq}
 use Rattle.std.proofs.lemmas.List.{take-append-le, drop-append-le}
-use Rattle.lists.specs.Part.{length_part}
 use Rattle.model.specs.Bytes.{each}
 use Rattle.model.specs.Catalogue.{Map}
 use Rattle.model.specs.Lent.{map_name, map_own, map_row, placed, joined}
@@ -80,9 +79,7 @@ module _ (f : ℕ → Map) where
       ∙ s
 
 -- a part of a list that is lent and copied over as a whole
-pub stored : (l src : List ℕ) (at m : ℕ) → length src ≡ m → at + m ≤ length l
-    → take at l ++ ((src ++ drop (length src) (take m (drop at l))) ++ drop m (drop at l)) ≡ sets l at src
+pub stored : (l src : List ℕ) (at m : ℕ) → length src ≡ m → at + m ≤ length l → take at l ++ (src ++ drop m (drop at l)) ≡ sets l at src
 stored l src at m e h =
-    let n : length (take m (drop at l)) ≤ length src = rw (e, length_part l at m h) (le_refl m) in
     let i : at + length src ≤ length l = rw e h in
-    rw (drop_of_length-le (take m (drop at l)) n, append-nil, drop-drop m at l, sets-eq src l at i, e, append_assoc)
+    rw (drop-drop m at l, sets-eq src l at i, e, append_assoc)

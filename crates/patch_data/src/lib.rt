@@ -1,8 +1,7 @@
 // Patching: the data of an accepted patch list into the own bytes of the object's maps.
 #![tactic(auto)]
 
-ghost use Rattle.std.specs.Prelude.{◌≡◌, ◌++◌, ◌+◌, ◌-◌, ◌<◌, ◌≤◌, length, take, drop};
-ghost use Rattle.std.proofs.Math.Option.{none};
+ghost use Rattle.std.specs.Prelude.{◌≡◌, ◌++◌, ◌+◌, ◌-◌, ◌<◌, ◌≤◌, length, take, drop, None};
 ghost use Rattle.std.proofs.lemmas.List.Edits.{sets};
 ghost use Rattle.model.specs.Bytes.{each, part};
 ghost use Rattle.model.specs.Contents.{catalogue_of};
@@ -16,7 +15,6 @@ ghost use Rattle.patch_checks.specs.Entries.{entry_count};
 ghost use Rattle.patch_data.specs.Acts.{own_place_of, MapReached};
 ghost use Rattle.patch_data.specs.Ready.{object_maps, Ready, own_at, checks_at};
 
-use lists::copy8;
 use model::SymbolRecord;
 use object_view::View;
 use patch_checks::entry_at;
@@ -29,9 +27,7 @@ fn write(bytes: &mut [u8], at: usize, patches: &[u8], from: usize, len: usize)
     requires { (at + len ≤ length bytes.old) × (from + len ≤ length patches.now) }
     ensures { bytes.new ≡ sets bytes.old at (part patches.now from len) }
 {
-    let end = at + len;
-    let stop = from + len;
-    copy8(&mut bytes[at..end], &patches[from..stop]);
+    bytes[at..at + len].copy_from_slice(&patches[from..from + len]);
 }
 
 // The same over the bytes of a symbol, in the map of its section; the map's row says where that begins.
@@ -111,18 +107,15 @@ pub fn patch_own(
     bytes: &mut [u8],
 )
     requires { Ready d.now t.now v entries.now symbols.now by.now rows.now own
-        × (patch_refusal (object_in d.now t.now v) (object_maps d.now t.now v) 1 (patches_of entries.now patches.now) ≡ none)
+        × (patch_refusal (object_in d.now t.now v) (object_maps d.now t.now v) 1 (patches_of entries.now patches.now) ≡ None)
         × (bytes.old ≡ each map_own (object_maps d.now t.now v)) }
     ensures { bytes.new
         ≡ each map_own
         (patched (object_in d.now t.now v) (patches_of entries.now patches.now)
         (catalogue_of (object_in d.now t.now v))).maps }
 {
-    let count = (entries.len() + 4) / 5;
-    let mut e: usize = 0;
-    while e < count {
+    for e in 0..entries.len().div_ceil(5) {
         patch_entry(d, t, v, entries, e, patches, symbols, by, rows, own, bytes);
-        e += 1;
     }
 }
 
@@ -141,7 +134,7 @@ pub fn patch_map_data(
     bytes: &mut [u8],
 )
     requires { Ready d.now t.now v entries.now symbols.now by.now rows.now own
-        × (patch_refusal (object_in d.now t.now v) (object_maps d.now t.now v) 1 (patches_of entries.now patches.now) ≡ none)
+        × (patch_refusal (object_in d.now t.now v) (object_maps d.now t.now v) 1 (patches_of entries.now patches.now) ≡ None)
         × (own ≤ end)
         × (end ≤ length bytes.old)
         × (part bytes.old own (end - own) ≡ each map_own (object_maps d.now t.now v)) }

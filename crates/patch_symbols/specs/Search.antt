@@ -14,7 +14,7 @@ use Rattle.lists.specs.Tests.{true-not-false, both_true}
 use Rattle.object_view.specs.declared.View.{View}
 use Rattle.model.specs.declared.Extent.{Extent}
 use Rattle.model.specs.Bytes.{same, before, keep}
-use Rattle.orders.specs.declared.Ordering.{Ordering}
+use Rattle.std.specs.Ordering.{is_lt, is_eq}
 use Rattle.orders.specs.Compare.{ordering, by_tests}
 use Rattle.orders.specs.Keys.{same-is, before-irrefl, before-only, before-trans, after_is, same-flip}
 use Rattle.orders.specs.Sort.{Order, by_key, key-order, sorted, Ordered, sorted-ordered}
@@ -29,31 +29,21 @@ use Rattle.patch_symbols.specs.Bearers.{bearer_of, bearers_in}
 
 -- ---- an answer of a comparison, as a test
 
-abbrev pub is_less : Ordering → Bool
-is_less Ordering.Less = true
-is_less Ordering.Equal = false
-is_less Ordering.Greater = false
-
-abbrev pub is_equal : Ordering → Bool
-is_equal Ordering.Less = false
-is_equal Ordering.Equal = true
-is_equal Ordering.Greater = false
-
-pub less-before : (a b : List ℕ) → is_less (ordering a b) ≡ before a b
+pub less-before : (a b : List ℕ) → is_lt (ordering a b) ≡ before a b
 unfolding ordering
 less-before a b = go (same a b) (before a b) refl refl
   where
-    go : (s t : Bool) → same a b ≡ s → before a b ≡ t → is_less (by_tests s t) ≡ t
+    go : (s t : Bool) → same a b ≡ s → before a b ≡ t → is_lt (by_tests s t) ≡ t
     go true true p q = true-not-false (sym q ∙ ap (before a) (sym (same-is a b p)) ∙ before-irrefl a)
     go true false p q = refl
     go false true p q = refl
     go false false p q = refl
 
-pub equal-same : (a b : List ℕ) → is_equal (ordering a b) ≡ same b a
+pub equal-same : (a b : List ℕ) → is_eq (ordering a b) ≡ same b a
 unfolding ordering
 equal-same a b = go (same a b) (before a b) ∙ same-flip a b
   where
-    go : (s t : Bool) → is_equal (by_tests s t) ≡ s
+    go : (s t : Bool) → is_eq (by_tests s t) ≡ s
     go true t = refl
     go false true = refl
     go false false = refl
@@ -117,17 +107,10 @@ module _ (key : ℕ → List ℕ) (word l : List ℕ) where
     rises : (i j : ℕ) → i < j → j < length l → before (key_at j) (key_at i) ≡ false
     rises i j k m = not-true (before (key_at j) (key_at i)) (ordered_at (by_key key) (key-order key) l o i j k m)
 
-    -- what holds of the key at m holds of those in front of it, or of those behind it
+    -- where the key at m is before the word, those in front of it are too
     pub all-below : (m : ℕ) → m < length l → before (key_at m) word ≡ true → (i : ℕ) → i < m + 1 → before (key_at i) word ≡ true
     all-below m k q i n =
         let e : i ≤ m = omega arith in ⊎_elim (λ e. rw e q) (λ t. below-down word (key_at i) (key_at m) q (rises i m t k)) (eq-or-lt_of_le e)
-
-    pub all_above : (m : ℕ) → before (key_at m) word ≡ false → (i : ℕ) → m ≤ i → i < length l → before (key_at i) word ≡ false
-    all_above m q i n k = ⊎_elim (λ e. rw (← e) q) (λ t. go t (before (key_at i) word) refl) (eq-or-lt_of_le n)
-      where
-        go : m < i → (b : Bool) → before (key_at i) word ≡ b → before (key_at i) word ≡ false
-        go t true e = true-not-false (sym (below-down word (key_at m) (key_at i) e (rises m i t k)) ∙ q)
-        go t false e = e
 
 -- ---- those that have the word as key
 
@@ -280,14 +263,10 @@ module _ (d t : List ℕ) (v : View) where
     at_cut : (i : ℕ) → before (key_at key (length_first word) order i) (length_first word) ≡ before (key_at length_and_name (length_first word) order i) (length_first word)
     at_cut i = before-cut word s.bytes known (get_or order i 0)
 
-    -- what holds of the name at m holds of those in front of it, or of those behind it
+    -- where the name at m is before the word, those in front of it are too
     pub names-below : (m : ℕ) → m < length order → before (key_at length_and_name (length_first word) order m) (length_first word) ≡ true
         → (i : ℕ) → i < m + 1 → before (key_at length_and_name (length_first word) order i) (length_first word) ≡ true
     names-below m k q i n = sym (at_cut i) ∙ all-below key (length_first word) order ordered m k (at_cut m ∙ q) i n
-
-    pub names-above : (m : ℕ) → before (key_at length_and_name (length_first word) order m) (length_first word) ≡ false
-        → (i : ℕ) → m ≤ i → i < length order → before (key_at length_and_name (length_first word) order i) (length_first word) ≡ false
-    names-above m q i n k = sym (at_cut i) ∙ all_above key (length_first word) order ordered m (at_cut m ∙ q) i n k
 
     -- what a look at the first two that are not before the word tells
     module _ (r : ℕ) (f : FirstNotBefore length_and_name (length_first word) order r) where

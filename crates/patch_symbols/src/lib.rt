@@ -9,10 +9,9 @@ ghost use Rattle.patch_symbols.specs.Bearers.{bearer_of, bearers_in};
 ghost use Rattle.patch_symbols.specs.Search.{FirstNotBefore, Searchable, has_at, length_first, length_and_name, by_name};
 
 use object_view::View;
-use orders::Ordering;
 use record_keys::{By, compare_name_with};
 use records::{name_at, symbol_name};
-use stream::size;
+use std::cmp::Ordering;
 
 // The number of the one symbol that bears a name.
 #[derive(Clone, Copy)]
@@ -37,7 +36,7 @@ fn compare(d: &[u8], t: &[u32], v: View, j: u32, word: &[u8]) -> Ordering
     ensures { result ≡ ordering (length_and_name d.now t.now v j) (length_first word.now) }
 {
     let name = symbol_name(d, t, v, j);
-    let n = size(name.length);
+    let n = name.length as usize;
     if n < word.len() {
         return Ordering::Less;
     }
@@ -52,22 +51,14 @@ fn is_before(d: &[u8], t: &[u32], v: View, j: u32, word: &[u8]) -> bool
     requires { length word.now < 2 ^ 60 }
     ensures { result ≡ before (length_and_name d.now t.now v j) (length_first word.now) }
 {
-    match compare(d, t, v, j, word) {
-        Ordering::Less => true,
-        Ordering::Equal => false,
-        Ordering::Greater => false,
-    }
+    compare(d, t, v, j, word).is_lt()
 }
 
 fn is_same(d: &[u8], t: &[u32], v: View, j: u32, word: &[u8]) -> bool
     requires { length word.now < 2 ^ 60 }
     ensures { result ≡ same (length_first word.now) (length_and_name d.now t.now v j) }
 {
-    match compare(d, t, v, j, word) {
-        Ordering::Less => false,
-        Ordering::Equal => true,
-        Ordering::Greater => false,
-    }
+    compare(d, t, v, j, word).is_eq()
 }
 
 // Whether a symbol stands at a place and bears the name.
@@ -75,11 +66,7 @@ fn bears_at(d: &[u8], t: &[u32], v: View, symbols: &[u32], at: usize, word: &[u8
     requires { length word.now < 2 ^ 60 }
     ensures { result ≡ has_at (length_and_name d.now t.now v) (length_first word.now) symbols.now at }
 {
-    if at < symbols.len() {
-        is_same(d, t, v, symbols[at], word)
-    } else {
-        false
-    }
+    at < symbols.len() && is_same(d, t, v, symbols[at], word)
 }
 
 // The place of the first symbol whose name is not before the word, or how many there are.
@@ -87,17 +74,7 @@ fn lower_bound(d: &[u8], t: &[u32], v: View, symbols: &[u32], word: &[u8]) -> us
     requires { Searchable d.now t.now v symbols.now (length word.now) × (length word.now ≤ 65535) }
     ensures { FirstNotBefore (length_and_name d.now t.now v) (length_first word.now) symbols.now result }
 {
-    let mut low: usize = 0;
-    let mut high: usize = symbols.len();
-    while low < high {
-        let middle = low + (high - low) / 2;
-        if is_before(d, t, v, symbols[middle], word) {
-            low = middle + 1;
-        } else {
-            high = middle;
-        }
-    }
-    low
+    symbols.partition_point(|j| is_before(d, t, v, *j, word))
 }
 
 pub fn bearer_of(d: &[u8], t: &[u32], v: View, symbols: &[u32], word: &[u8]) -> Bearer

@@ -1,48 +1,42 @@
 -- What the numbers of a name's two pieces tell: computed for each word of the table, and carried to every name.
-use Rattle.std.specs.Prelude.{◌≡◌, Bool, cond, ◌&&◌, ℕ, ◌+◌, ◌/◌, ◌%◌, ◌<◌, eqb, ltb}
+use Rattle.program_section.specs.declared.Variant.{Variant}
+use Rattle.std.specs.Prelude.{◌≡◌, Bool, cond, ◌&&◌, ℕ, ◌+◌, ◌/◌, ◌%◌, eqb, ltb, None, Option, Some}
 use Rattle.std.proofs.Math.Path.{refl, subst}
-use Rattle.std.proofs.Common.{sym, ◌∙◌, arith, lt-ltb}
+use Rattle.std.proofs.Common.{sym, ◌∙◌}
 use Rattle.std.proofs.Math.Bool.{true, false}
 use Rattle.std.proofs.lemmas.Bool.{false≢true}
 use mathlib.Core.List.{List, [], ◌∷◌, ◌++◌, map}
-use Rattle.std.proofs.Math.Option.{Option, none, some}
 use Rattle.model.specs.declared.ProgramSection.{ProgramSection}
 use Rattle.model.specs.Bytes.{same, first_in}
 use Rattle.model.specs.ProgramName.{Second, Reading, fits, readings}
 use Rattle.model.specs.ProgramNumbers.{variant_of}
 use Rattle.model.specs.ReadBack.{program_from}
-use Rattle.program_section.specs.declared.Found.{Found}
 use Rattle.orders.specs.Keys.{same-is}
 use Rattle.program_section.specs.Same.{and_left, and_right}
 use Rattle.program_section.specs.Short.{row_gives, parsed, all_rows, rows_alike, none-gives}
 use Rattle.program_section.specs.Found.{row_variant, shown_in, parsed_in, Tells}
-use Rattle.program_section.specs.Words.{Entry, answering, reading, second, word_table, no_word, word_number}
+use Rattle.program_section.specs.Words.{Entry, answering, reading, second, word_table, word_number}
 
 -- what a name's number tells
-abbrev pub told_by : ℕ → Found
-told_by r = cond (ltb r 0x10000) (Found.Program (row_variant r)) Found.Nothing
-
-pub told-low : (n : ℕ) → told_by (n % 0x10000) ≡ Found.Program (row_variant n)
-told-low n =
-    let a : n % 0x10000 < 0x10000 = omega arith in
-    let b : n % 0x10000 / 0x100 % 256 ≡ n / 0x100 % 256 = omega arith in
-    let c : n % 0x10000 / 0x10 % 16 ≡ n / 0x10 % 16 = omega arith in
-    let d : n % 0x10000 % 16 ≡ n % 16 = omega arith in
-    rw (lt-ltb _ _ a, b, c, d)
+abbrev pub told_by : Option ℕ → Option Variant
+told_by None = None
+told_by (Some n) = Some (row_variant n)
 
 -- a first piece that reads a second: without one, and by both numbers
-abbrev pub alone : ℕ → Found
-alone n = cond (ltb n 0x30000) (Found.Program (row_variant n)) Found.Nothing
+abbrev pub alone : ℕ → Option ℕ
+alone n = cond (ltb n 0x30000) (Some n) None
 
-abbrev pub with_second : ℕ → ℕ → Found
-with_second n k = cond (eqb (k / 0x10000) (n / 0x10000 + 16)) (Found.Program (row_variant (n + k % 0x10000))) Found.Nothing
+abbrev pub with_second : ℕ → Option ℕ → Option ℕ
+with_second n None = None
+with_second n (Some k) = cond (eqb (k / 0x10000) (n / 0x10000 + 16)) (Some (n + k % 0x10000)) None
 
-abbrev read_as : ℕ → Option (List ℕ) → Found
-read_as n none = alone n
-read_as n (some q) = with_second n (word_number word_table q)
+abbrev read_as : ℕ → Option (List ℕ) → Option ℕ
+read_as n None = alone n
+read_as n (Some q) = with_second n (word_number word_table q)
 
-abbrev pub piece_answer : ℕ → Option (List ℕ) → Found
-piece_answer n q = cond (ltb n 0x10000) (Found.Program (row_variant n)) (cond (ltb n 0x60000) (read_as n q) Found.Nothing)
+abbrev pub piece_answer : Option ℕ → Option (List ℕ) → Option Variant
+piece_answer None q = None
+piece_answer (Some n) q = told_by (cond (ltb n 0x10000) (Some n) (cond (ltb n 0x60000) (read_as n q) None))
 
 -- ---- words of the table, and words that it lacks
 
@@ -67,13 +61,13 @@ module _ (p : List ℕ) where
   Missing [] = Unit {0}
   Missing (e ∷ es) = (same e.word p ≡ false) × Missing es
 
-  pub by-words : (M : List ℕ → ℕ → Type 0) (es : List Entry) → Each (λ e. M e.word e.number) es → (Missing es → M p no_word) → M p (word_number es p)
+  pub by-words : (M : List ℕ → Option ℕ → Type 0) (es : List Entry) → Each (λ e. M e.word (Some e.number)) es → (Missing es → M p None) → M p (word_number es p)
   unfolding word_number
   by-words M [] a lack = lack tt
   by-words M (e ∷ es) a lack = go (same e.word p) refl (λ h. by-words M es a.1 (λ m. lack (h, m)))
     where
-      go : (b : Bool) → same e.word p ≡ b → (same e.word p ≡ false → M p (word_number es p)) → M p (cond b e.number (word_number es p))
-      go true h r = subst (λ (x : List ℕ). M x e.number) (same-is e.word p h) a.0
+      go : (b : Bool) → same e.word p ≡ b → (same e.word p ≡ false → M p (word_number es p)) → M p (cond b (Some e.number) (word_number es p))
+      go true h r = subst (λ (x : List ℕ). M x (Some e.number)) (same-is e.word p h) a.0
       go false h r = r h
 
   missing-word : (w : List ℕ) (es : List Entry) → Missing es → is_in w es ≡ true → same w p ≡ false
@@ -107,9 +101,9 @@ unfolding all_rows readings word_table answering reading second same
 readings-known = refl
 
 -- a first piece that the table lacks
-lacked : (p : List ℕ) (q : Option (List ℕ)) → Missing p word_table → first_in (row_gives p q) readings ≡ none
+lacked : (p : List ℕ) (q : Option (List ℕ)) → Missing p word_table → first_in (row_gives p q) readings ≡ None
 lacked p q m =
-    rows_alike known_row (row_gives p q) (λ r. none)
+    rows_alike known_row (row_gives p q) (λ r. None)
     (λ r t. rw (missing-word p r.first word_table m (and_left (is_in r.first word_table) (known_second r.second) t))) readings readings-known
     ∙ none-gives readings
 
@@ -119,25 +113,25 @@ unfolding word_table answering reading second same
 empty-lacked = missing-empty word_table refl
 
 -- a second piece that it lacks fits where an empty one does
-fits-lacked : (s : List ℕ) → Missing s word_table → (k : Second) → known_second k ≡ true → fits k (some s) ≡ fits k (some [])
+fits-lacked : (s : List ℕ) → Missing s word_table → (k : Second) → known_second k ≡ true → fits k (Some s) ≡ fits k (Some [])
 unfolding fits
 fits-lacked s m Second.unread t = refl
 fits-lacked s m Second.absent t = refl
 fits-lacked s m (Second.is w) t = missing-word s w word_table m t ∙ sym (missing-word [] w word_table empty-lacked t)
 
-second-lacked : (w s : List ℕ) → Missing s word_table → first_in (row_gives w (some s)) readings ≡ first_in (row_gives w (some [])) readings
+second-lacked : (w s : List ℕ) → Missing s word_table → first_in (row_gives w (Some s)) readings ≡ first_in (row_gives w (Some [])) readings
 second-lacked w s m =
-    rows_alike known_row (row_gives w (some s)) (row_gives w (some []))
+    rows_alike known_row (row_gives w (Some s)) (row_gives w (Some []))
     (λ r t. rw (fits-lacked s m r.second (and_right (is_in r.first word_table) (known_second r.second) t))) readings readings-known
 
 -- ---- the words one by one
 
-tells-each : (f : Entry → Found) (g : Entry → Option ProgramSection) (es : List Entry) → map f es ≡ map (λ e. shown_in (g e)) es
+tells-each : (f : Entry → Option Variant) (g : Entry → Option ProgramSection) (es : List Entry) → map f es ≡ map (λ e. shown_in (g e)) es
     → map (λ e. parsed_in (f e)) es ≡ map (λ e. parsed (g e)) es → Each (λ e. Tells (f e) (g e)) es
 tells-each f g [] a b = tt
 tells-each f g (e ∷ es) a b = (record { shows = cc; gives = cc }, tells-each f g es (cc) (cc))
 
-tells-grid : (f : Entry → Entry → Found) (g : Entry → Entry → Option ProgramSection) (es fs : List Entry)
+tells-grid : (f : Entry → Entry → Option Variant) (g : Entry → Entry → Option ProgramSection) (es fs : List Entry)
     → map (λ x. map (f x) es) fs ≡ map (λ x. map (λ e. shown_in (g x e)) es) fs
     → map (λ x. map (λ e. parsed_in (f x e)) es) fs ≡ map (λ x. map (λ e. parsed (g x e)) es) fs
     → Each (λ x. Each (λ e. Tells (f x e) (g x e)) es) fs
@@ -145,38 +139,38 @@ tells-grid f g es [] a b = tt
 tells-grid f g es (x ∷ fs) a b = (tells-each (f x) (g x) es (cc) (cc), tells-grid f g es fs (cc) (cc))
 
 abbrev TellsAt : Option (List ℕ) → Entry → Type 0
-TellsAt q e = Tells (piece_answer e.number q) (first_in (row_gives e.word q) readings)
+TellsAt q e = Tells (piece_answer (Some e.number) q) (first_in (row_gives e.word q) readings)
 
 answering-tell : (q : Option (List ℕ)) → Each (TellsAt q) answering
 unfolding answering readings first_in same fits variant_of program_from
-answering-tell q = tells-each (λ e. piece_answer e.number q) (λ e. first_in (row_gives e.word q) readings) answering refl refl
+answering-tell q = tells-each (λ e. piece_answer (Some e.number) q) (λ e. first_in (row_gives e.word q) readings) answering refl refl
 
 second-tell : (q : Option (List ℕ)) → Each (TellsAt q) second
 unfolding second readings first_in same fits variant_of program_from
-second-tell q = tells-each (λ e. piece_answer e.number q) (λ e. first_in (row_gives e.word q) readings) second refl refl
+second-tell q = tells-each (λ e. piece_answer (Some e.number) q) (λ e. first_in (row_gives e.word q) readings) second refl refl
 
 -- first pieces that read a second, by the number of it
-abbrev ReadAt : List ℕ → ℕ → Type 0
-ReadAt s k = Each (λ e. Tells (with_second e.number k) (first_in (row_gives e.word (some s)) readings)) reading
+abbrev ReadAt : List ℕ → Option ℕ → Type 0
+ReadAt s k = Each (λ e. Tells (told_by (with_second e.number k)) (first_in (row_gives e.word (Some s)) readings)) reading
 
-read-words : Each (λ x. ReadAt x.word x.number) word_table
+read-words : Each (λ x. ReadAt x.word (Some x.number)) word_table
 unfolding word_table answering reading second readings first_in same fits variant_of program_from
 read-words =
-    tells-grid (λ x e. with_second e.number x.number) (λ x e. first_in (row_gives e.word (some x.word)) readings) reading word_table refl refl
+    tells-grid (λ x e. told_by (with_second e.number (Some x.number))) (λ x e. first_in (row_gives e.word (Some x.word)) readings) reading word_table refl refl
 
-read-empty : ReadAt [] no_word
+read-empty : ReadAt [] None
 unfolding reading readings first_in same fits variant_of program_from
-read-empty = tells-each (λ e. with_second e.number no_word) (λ e. first_in (row_gives e.word (some [])) readings) reading refl refl
+read-empty = tells-each (λ e. told_by (with_second e.number None)) (λ e. first_in (row_gives e.word (Some [])) readings) reading refl refl
 
-read-lacked : (s : List ℕ) → Missing s word_table → ReadAt s no_word
+read-lacked : (s : List ℕ) → Missing s word_table → ReadAt s None
 read-lacked s m =
-    each_map (λ e. Tells (with_second e.number no_word) (first_in (row_gives e.word (some [])) readings)) _
-    (λ e t. subst (Tells (with_second e.number no_word)) (sym (second-lacked e.word s m)) t) reading read-empty
+    each_map (λ e. Tells (told_by (with_second e.number None)) (first_in (row_gives e.word (Some [])) readings)) _
+    (λ e t. subst (Tells (told_by (with_second e.number None))) (sym (second-lacked e.word s m)) t) reading read-empty
 
 reading-tell : (q : Option (List ℕ)) → Each (TellsAt q) reading
 unfolding reading readings first_in same fits variant_of program_from
-reading-tell none = tells-each (λ e. piece_answer e.number none) (λ e. first_in (row_gives e.word none) readings) reading refl refl
-reading-tell (some s) = by-words s ReadAt word_table read-words (read-lacked s)
+reading-tell None = tells-each (λ e. piece_answer (Some e.number) None) (λ e. first_in (row_gives e.word None) readings) reading refl refl
+reading-tell (Some s) = by-words s ReadAt word_table read-words (read-lacked s)
 
 -- the answer by the numbers of a name's two pieces
 pub tells : (p : List ℕ) (q : Option (List ℕ)) → Tells (piece_answer (word_number word_table p) q) (first_in (row_gives p q) readings)

@@ -1,19 +1,17 @@
 -- A name that is the first m bytes of a longer list: its pieces lie there, and their numbers tell it.
-use Rattle.std.specs.Prelude.{◌≡◌, Bool, true, ◌&&◌, List, [], ◌∷◌, ℕ, zero, suc, ◌-◌, ◌<◌, ◌≤◌, min, eqb, ltb, take, drop}
+use Rattle.std.specs.Prelude.{◌≡◌, Bool, true, ◌&&◌, List, [], ◌∷◌, ℕ, zero, suc, ◌-◌, ◌<◌, ◌≤◌, min, eqb, ltb, take, drop, None, Option, Some}
 use Rattle.std.proofs.Math.Path.{refl, ap}
 use Rattle.std.proofs.Common.{sym, ◌∙◌, arith, eqb-true, ltb-true, lt-ltb, le-ltb, length-take, take-take}
-use Rattle.std.proofs.Math.Option.{none, some}
 use Rattle.std.proofs.Math.Nat.{zero-min, min-zero, suc-min-suc}
 use Rattle.std.proofs.Math.ListN.{length}
 use Rattle.std.proofs.Math.Seq.{length-take-le, take-nil}
 use Rattle.model.specs.ProgramName.{cut, first_piece, second_piece, program_of}
-use Rattle.program_section.specs.declared.Found.{Found}
 use Rattle.program_section.specs.Same.{and_left, and_right}
 use Rattle.program_section.specs.Pieces.{until, until-le, first_piece_lem, second-piece}
 use Rattle.program_section.specs.Short.{long-name}
-use Rattle.program_section.specs.Found.{row_variant, Tells}
-use Rattle.program_section.specs.Words.{Entry, answering, reading, second, word_table, no_word, word_number, short-word}
-use Rattle.program_section.specs.Table.{alone, with_second, piece_answer, Each, by-words, tells}
+use Rattle.program_section.specs.Found.{Tells}
+use Rattle.program_section.specs.Words.{Entry, answering, reading, second, word_table, word_number, short-word}
+use Rattle.program_section.specs.Table.{told_by, alone, with_second, piece_answer, Each, by-words, tells}
 
 drop-take : (k m : ℕ) (l : List ℕ) → drop k (take m l) ≡ take (m - k) (drop k l)
 drop-take zero m l = let e : m ≡ m - 0 = omega arith in ap (λ (n : ℕ). take n l) e
@@ -43,23 +41,25 @@ unfoldable all_whole : List Entry → Bool
 all_whole [] = true
 all_whole (e ∷ es) = (eqb (until e.word) (length e.word) && ltb (length e.word) 18) && all_whole es
 
-each-whole : (es : List Entry) → all_whole es ≡ true → Each (λ e. (e.number ≡ no_word → ⊥) → Whole e.word) es
+each-whole : (es : List Entry) → all_whole es ≡ true → Each (λ e. (k : ℕ) → Some e.number ≡ Some k → Whole e.word) es
 unfolding all_whole
 each-whole [] t = tt
 each-whole (e ∷ es) t =
     let a = eqb (until e.word) (length e.word) in
     let b = ltb (length e.word) 18 in
     let h = and_left (a && b) (all_whole es) t in
-    (λ n. (eqb-true _ _ (and_left a b h), ltb-true _ _ (and_right a b h)), each-whole es (and_right (a && b) (all_whole es) t))
+    (λ k n. (eqb-true _ _ (and_left a b h), ltb-true _ _ (and_right a b h)), each-whole es (and_right (a && b) (all_whole es) t))
 
 words-whole : all_whole word_table ≡ true
 unfolding all_whole word_table answering reading second until
 words-whole = refl
 
-pub whole_word : (v : List ℕ) (m : ℕ) → m ≤ length v → (word_number word_table (take (min m 18) v) ≡ no_word → ⊥) → min m 18 ≡ min (until (take m v)) 18
-whole_word v m h n =
+pub whole_word : (v : List ℕ) (m k : ℕ) → m ≤ length v → word_number word_table (take (min m 18) v) ≡ Some k → min m 18 ≡ min (until (take m v)) 18
+whole_word v m k h n =
     let p = take (min m 18) v in
-    let w : Whole p = by-words p (λ x k. (k ≡ no_word → ⊥) → Whole x) word_table (each-whole word_table words-whole) (λ l z. absurd (z refl)) n in
+    let w : Whole p =
+    by-words p (λ x o. (j : ℕ) → o ≡ Some j → Whole x) word_table (each-whole word_table words-whole) (λ l j z. cc) k n
+    in
     let l : length p ≡ min m 18 = length-take-le (min m 18) v (omega arith) in
     let e : min m 18 ≡ m = omega (arith, w.1) in
     let u : until (take m v) ≡ m = rw (e) at (w.0 ∙ l) in
@@ -75,48 +75,52 @@ module _ (v : List ℕ) (m : ℕ) (inside : m ≤ length v) where
   first-in : first_piece (cut name) ≡ take (until name) v
   first-in = first_piece_lem name ∙ piece-in m v
 
-  pub window-long : 18 ≤ until name → Tells Found.Nothing (program_of name)
+  pub window-long : 18 ≤ until name → Tells None (program_of name)
   unfolding program_of
   window-long h =
       let l : 18 ≤ length (first_piece (cut name)) = rw first-in (omega (arith, length-take-le (until name) v (omega (arith, bound)))) in
       rw (long-name (first_piece (cut name)) (second_piece (cut name)) l) (record { shows = refl; gives = refl })
 
-  second_none : m ≤ until name → second_piece (cut name) ≡ none
+  second_none : m ≤ until name → second_piece (cut name) ≡ None
   second_none h = second-piece name ∙ rw (le-ltb (until name) (length name) (omega (arith, length-take m v)))
 
   second-in : until name < m
-      → second_piece (cut name) ≡ some (take (until (take (m - suc (until name)) (drop (suc (until name)) v))) (drop (suc (until name)) v))
+      → second_piece (cut name) ≡ Some (take (until (take (m - suc (until name)) (drop (suc (until name)) v))) (drop (suc (until name)) v))
   second-in h =
       second-piece name
       ∙ rw (lt-ltb (until name) (length name) (omega (arith, length-take-le m v inside)), drop-take (suc (until name)) m v)
-      (ap some (piece-in (m - suc (until name)) (drop (suc (until name)) v)))
+      (ap Some (piece-in (m - suc (until name)) (drop (suc (until name)) v)))
 
   -- n is the number of the first piece
-  module _ (f n : ℕ) (e : f ≡ until name) (is : n ≡ word_number word_table (take f v)) where
-    told : Tells (piece_answer n (second_piece (cut name))) (program_of name)
+  module _ (f : ℕ) (e : f ≡ until name) where
+    told : (n : Option ℕ) → n ≡ word_number word_table (take f v) → Tells (piece_answer n (second_piece (cut name))) (program_of name)
     unfolding program_of
-    told =
+    told n is =
         let k : n ≡ word_number word_table (first_piece (cut name)) = is ∙ ap (λ (x : ℕ). word_number word_table (take x v)) e ∙ ap (word_number word_table) (sym first-in) in
         rw k (tells (first_piece (cut name)) (second_piece (cut name)))
 
-    pub window-first : n < 0x10000 → Tells (Found.Program (row_variant n)) (program_of name)
-    window-first h = rw (lt-ltb n 0x10000 h) at told
+    pub window-lacked : None ≡ word_number word_table (take f v) → Tells None (program_of name)
+    window-lacked is = told None is
 
-    module _ (second : 0x10000 ≤ n) where
-      pub window-none : 0x60000 ≤ n → Tells Found.Nothing (program_of name)
-      window-none h = rw (le-ltb n 0x10000 second, le-ltb n 0x60000 h) at told
+    module _ (n : ℕ) (is : Some n ≡ word_number word_table (take f v)) where
+      pub window-first : n < 0x10000 → Tells (told_by (Some n)) (program_of name)
+      window-first h = rw (lt-ltb n 0x10000 h) at (told (Some n) is)
 
-      module _ (read : n < 0x60000) where
-        pub window-alone : m ≤ f → Tells (alone n) (program_of name)
-        window-alone h = rw (second_none (omega arith), le-ltb n 0x10000 second, lt-ltb n 0x60000 read) at told
+      module _ (second : 0x10000 ≤ n) where
+        pub window-none : 0x60000 ≤ n → Tells None (program_of name)
+        window-none h = rw (le-ltb n 0x10000 second, le-ltb n 0x60000 h) at (told (Some n) is)
 
-        pub window-followed : f < m → (r : List ℕ) → r ≡ drop (suc f) v → (b k : ℕ) → b ≡ min (until (take (m - suc f) r)) 18 → k ≡ word_number word_table (take b r)
-            → Tells (with_second n k) (program_of name)
-        window-followed h r s b k c d =
-            let q = take (until (take (m - suc f) r)) r in
-            let g : second_piece (cut name) ≡ some q =
-            second-in (omega arith) ∙ rw (s, e)
-            in
-            let t : take b r ≡ take 18 q = short-piece (until (take (m - suc f) r)) b r c in
-            let j : k ≡ word_number word_table q = d ∙ ap (word_number word_table) t ∙ short-word q in
-            rw j (rw (g, le-ltb n 0x10000 second, lt-ltb n 0x60000 read) at told)
+        module _ (read : n < 0x60000) where
+          pub window-alone : m ≤ f → Tells (told_by (alone n)) (program_of name)
+          window-alone h = rw (second_none (omega arith), le-ltb n 0x10000 second, lt-ltb n 0x60000 read) at (told (Some n) is)
+
+          pub window-followed : f < m → (r : List ℕ) → r ≡ drop (suc f) v → (b : ℕ) (k : Option ℕ) → b ≡ min (until (take (m - suc f) r)) 18
+              → k ≡ word_number word_table (take b r) → Tells (told_by (with_second n k)) (program_of name)
+          window-followed h r s b k c d =
+              let q = take (until (take (m - suc f) r)) r in
+              let g : second_piece (cut name) ≡ Some q =
+              second-in (omega arith) ∙ rw (s, e)
+              in
+              let t : take b r ≡ take 18 q = short-piece (until (take (m - suc f) r)) b r c in
+              let j : k ≡ word_number word_table q = d ∙ ap (word_number word_table) t ∙ short-word q in
+              rw j (rw (g, le-ltb n 0x10000 second, lt-ltb n 0x60000 read) at (told (Some n) is))

@@ -1,5 +1,5 @@
 -- The table's words with their numbers, and what is found of a word by its key.
-use Rattle.std.specs.Prelude.{◌≡◌, Bool, ◌&&◌, ℕ, ◌+◌, ◌-◌, ◌*◌, eqb, ltb, length, get_or, take}
+use Rattle.std.specs.Prelude.{◌≡◌, Bool, ◌&&◌, ℕ, ◌+◌, ◌-◌, ◌*◌, eqb, ltb, length, get_or, take, None, Option, Some}
 use Rattle.std.proofs.Math.Path.{refl}
 use Rattle.std.proofs.Common.{sym, ap, ◌∙◌, arith, eqb-true, ne_eqb, ltb-true}
 use Rattle.std.proofs.Math.Bool.{true, false, cond}
@@ -103,13 +103,10 @@ second =
 unfoldable pub word_table : List Entry
 word_table = answering ++ (reading ++ second)
 
--- the number of a word that the table lacks
-abbrev pub no_word : ℕ
-no_word = 0x200000
-
-unfoldable pub word_number : List Entry → List ℕ → ℕ
-word_number [] p = no_word
-word_number (e ∷ es) p = cond (same e.word p) e.number (word_number es p)
+-- the number of a word, where the table has it
+unfoldable pub word_number : List Entry → List ℕ → Option ℕ
+word_number [] p = None
+word_number (e ∷ es) p = cond (same e.word p) (Some e.number) (word_number es p)
 
 -- a word by its count of letters, its first and its last
 abbrev pub word_key : List ℕ → ℕ
@@ -125,7 +122,7 @@ module _ (p : List ℕ) where
   other_key w false e h = refl
 
   keep-by : (b : Bool) (e : Entry) (xs es : List Entry) → eqb (word_key e.word) (word_key p) ≡ b → word_number xs p ≡ word_number es p
-      → word_number (push b e xs) p ≡ cond (same e.word p) e.number (word_number es p)
+      → word_number (push b e xs) p ≡ cond (same e.word p) (Some e.number) (word_number es p)
   unfolding word_number
   keep-by true e xs es h k = rw k
   keep-by false e xs es h k = rw (other_key e.word (same e.word p) refl h) k
@@ -165,7 +162,7 @@ module _ (p : List ℕ) (t : ℕ → Bool) (keys : List ℕ) (k : ℕ) (is : wor
   other x true e h = none_of k x keys none h
   other x false e h = ne_eqb x k (λ q. false≢true (sym e ∙ ap t q ∙ passes))
 
-  unlisted-in : (es : List Entry) → all_listed t keys es ≡ true → word_number es p ≡ no_word
+  unlisted-in : (es : List Entry) → all_listed t keys es ≡ true → word_number es p ≡ None
   unfolding word_number all_listed
   unlisted-in [] h = refl
   unlisted-in (e ∷ es) h =
@@ -175,10 +172,10 @@ module _ (p : List ℕ) (t : ℕ → Bool) (keys : List ℕ) (k : ℕ) (is : wor
       rw (other_key p e.word (same e.word p) refl (rw is (other x (t x) refl (and_left a b h))), unlisted-in es (and_right a b h))
 
   -- a key that no word has
-  pub unlisted : all_listed t keys word_table ≡ true → word_number word_table p ≡ no_word
+  pub unlisted : all_listed t keys word_table ≡ true → word_number word_table p ≡ None
   unlisted h = unlisted-in word_table h
 
-pub empty-word : (p : List ℕ) → length p ≡ 0 → word_number word_table p ≡ no_word
+pub empty-word : (p : List ℕ) → length p ≡ 0 → word_number word_table p ≡ None
 unfolding word_number word_table answering reading second same
 empty-word [] e = refl
 empty-word (x ∷ p) e = let z : ⊥ = omega arith in absurd z

@@ -1,5 +1,5 @@
 -- The fields of head and records, each a number at its own place.
-use Rattle.std.specs.Prelude.{◌≡◌, List, ℕ, suc, ◌+◌, ◌*◌, ◌/◌, ◌%◌, ◌<◌, ◌≤◌, get_or}
+use Rattle.std.specs.Prelude.{◌≡◌, List, ℕ, suc, ◌+◌, ◌/◌, ◌%◌, ◌<◌, ◌≤◌, get_or}
 use Rattle.std.proofs.Math.Path.{sym, ap}
 use Rattle.std.proofs.Common.{ap₂, ◌∙◌}
 use native.Mathlib.Omega.{arith}
@@ -7,10 +7,10 @@ use Rattle.model.specs.Bytes.{part, little}
 use Rattle.model.specs.Deposit.{head_of, extent, section_record, symbol_record, relocation_record}
 use Rattle.stream.specs.Stream.{byte_at, bytes_at}
 use Rattle.stream.specs.Laws.{get_or-bytes, part_bytes}
-use Rattle.stream.specs.Fields.{little-first, bytes-four, little-split}
+use Rattle.stream.specs.Fields.{little-first}
 use Rattle.model.specs.declared.SectionIndex.{SectionIndex}
 use Rattle.model.specs.declared.SymbolIndex.{SymbolIndex}
-use Rattle.records.specs.Records.{extent_at}
+use Rattle.records.specs.Records.{extent_in, extent_at}
 
 module _ (d : List ℕ) (gap p : ℕ) where
   -- a number of m bytes at k, of n
@@ -146,12 +146,5 @@ module _ (d : List ℕ) (gap p : ℕ) where
   unfolding relocation_record
   relocation-symbol = ap symbol_index (num d gap p 16 8 4 (omega arith))
 
-  -- two numbers of four bytes, read as one of eight
-  pub extent-both : (both : ℕ) → ((k : ℕ) → byte_at d gap k < 256) → both ≡ little (bytes_at d gap p 8)
-      → extent (both % 4294967296) (both / 4294967296) ≡ extent_at d gap p
-  extent-both both small e =
-      let s : both ≡ little (bytes_at d gap p 4) + 4294967296 * little (bytes_at d gap (p + 4) 4) = e ∙ little-split d gap p 4 4 in
-      let l : little (bytes_at d gap p 4) < 4294967296 = omega (arith, bytes-four d gap p, small p, small (p + 1), small (p + 2), small (p + 3)) in
-      let low : both % 4294967296 ≡ little (bytes_at d gap p 4) = omega arith in
-      let high : both / 4294967296 ≡ little (bytes_at d gap (p + 4) 4) = omega arith in
-      ap₂ extent low high
+  pub extent-bytes : extent_in (bytes_at d gap p 8) ≡ extent_at d gap p
+  extent-bytes = range d gap p 8 0 (omega arith) ∙ ap (extent_at d gap) (omega arith)

@@ -1,13 +1,14 @@
 // The one door to records: a deposit's or an ELF file's, by number, through a view; what a map's number stands for; and the walk over record numbers.
 #![tactic(auto)]
 
-ghost use Rattle.std.specs.Prelude.{◌≡◌, ◌+◌, ◌^◌, ◌<◌, ◌≤◌, length};
+ghost use Rattle.std.specs.Prelude.{◌≡◌, ◌+◌, ◌^◌, ◌<◌, ◌≤◌, List, ℕ, length};
 ghost use Rattle.model.specs.Bytes.{u32};
 ghost use Rattle.model.specs.Deposit.{byte_order, end_of, extent as extent_of, section_record, symbol_record, relocation_record};
 ghost use Rattle.stream.specs.Stream.{bytes_at};
-ghost use Rattle.records.specs.Records.{head_at, symbols_at, relocations_at, names_at, data_at, extent_at, deposit_section, deposit_symbol};
+ghost use Rattle.stream.specs.Spans.{bytes_of};
+ghost use Rattle.records.specs.Records.{head_at, symbols_at, relocations_at, names_at, data_at, extent_in, deposit_section, deposit_symbol};
 ghost use Rattle.records.specs.Records.{deposit_relocation, cursor, step_of};
-ghost use Rattle.records.specs.View.{gap_of, deposit_view, section_at, symbol_at, relocation_at};
+ghost use Rattle.records.specs.View.{gap_of, name_in, data_in, deposit_view, section_at, symbol_at, relocation_at};
 ghost use Rattle.records.specs.Maps.{map_source_of, map_number_of, map_name_at};
 
 use model::{
@@ -15,19 +16,53 @@ use model::{
     SymbolRecord,
 };
 use object_view::{Form, Places, Strings, View};
-use stream::{Spot, copy_bytes, eight, four, size, spot_of, u32_at, u64_at};
+use stream::{Span, Stream, eight, four};
+
+// The stream of a deposit: its checks stand between the blocks.
+pub fn deposit_stream(d: &[u8]) -> Stream<'_>
+    ensures bytes { result.bytes.now ≡ d.now }
+    ensures gap { result.gap ≡ 4 }
+{
+    Stream { bytes: d, gap: 4 }
+}
 
 pub fn head(d: &[u8]) -> Head
     ensures { result ≡ head_at d.now }
 {
+    let stream = deposit_stream(d);
     Head {
-        order: u32_at(d, 4, 0),
-        sections: u32_at(d, 4, 4),
-        symbols: u32_at(d, 4, 8),
-        relocations: u32_at(d, 4, 12),
-        names: u32_at(d, 4, 16),
-        bytes: u32_at(d, 4, 20),
-        reserved: u64_at(d, 4, 24),
+        order: stream.u32_at(0),
+        sections: stream.u32_at(4),
+        symbols: stream.u32_at(8),
+        relocations: stream.u32_at(12),
+        names: stream.u32_at(16),
+        bytes: stream.u32_at(20),
+        reserved: stream.u64_at(24),
+    }
+}
+
+// A record that stands in N bytes of a deposit: `read` says which.
+trait Record<const N: usize>: Sized {
+    ghost read: { List ℕ → Self };
+
+    fn from_bytes(s: &[u8]) -> Self
+        requires { length s.now ≡ N }
+        ensures { result ≡ read s.now };
+}
+
+// The record at byte p of a deposit's stream: read where it lies in one block, else from a copy.
+fn record_at<const N: usize, R: Record<N>>(d: &[u8], p: usize) -> R
+    requires { (p < 2 ^ 60) × (N ≤ 508) }
+    ensures { result ≡ R.read (bytes_at d.now 4 p N) }
+{
+    let stream = deposit_stream(d);
+    match stream.slice(p, N) {
+        Some(s) => R::from_bytes(s),
+        None => {
+            let mut s = [0u8; N];
+            stream.copy_bytes(p, &mut s);
+            R::from_bytes(&s)
+        }
     }
 }
 
@@ -41,157 +76,119 @@ fn extent(s: &[u8], k: usize) -> Extent
     }
 }
 
-fn section_of(s: &[u8]) -> SectionRecord
-    requires { length s.now ≡ 48 }
-    ensures { result ≡ section_record s.now }
-{
-    SectionRecord {
-        index: SectionIndex(four(s, 0)),
-        mark: four(s, 4),
-        name: extent(s, 8),
-        address: eight(s, 16),
-        size: eight(s, 24),
-        bytes: extent(s, 32),
-        relocations: extent(s, 40),
+impl Record<8> for Extent {
+    ghost read = { extent_in };
+
+    fn from_bytes(s: &[u8]) -> Self {
+        extent(s, 0)
     }
 }
 
-// The section record at byte p of a deposit's stream.
-fn section_at(d: &[u8], p: usize) -> SectionRecord
-    requires { p < 2 ^ 60 }
-    ensures { result ≡ section_record (bytes_at d.now 4 p 48) }
-{
-    match spot_of(d, 4, p, 48) {
-        Spot::Together(at) => {
-            let end = at + 48;
-            section_of(&d[at..end])
+impl Record<48> for SectionRecord {
+    ghost read = { section_record };
+
+    fn from_bytes(s: &[u8]) -> Self {
+        SectionRecord {
+            index: SectionIndex(four(s, 0)),
+            mark: four(s, 4),
+            name: extent(s, 8),
+            address: eight(s, 16),
+            size: eight(s, 24),
+            bytes: extent(s, 32),
+            relocations: extent(s, 40),
         }
-        Spot::Apart => {
-            let mut s = [0u8; 48];
-            copy_bytes(d, 4, p, &mut s);
-            section_of(&s)
+    }
+}
+
+impl Record<40> for SymbolRecord {
+    ghost read = { symbol_record };
+
+    fn from_bytes(s: &[u8]) -> Self {
+        SymbolRecord {
+            index: SymbolIndex(four(s, 0)),
+            section: SectionIndex(four(s, 4)),
+            name: extent(s, 8),
+            address: eight(s, 16),
+            size: eight(s, 24),
+            kind: s[32],
+            definition: s[33],
+            // Behind kind and definition.
+            reserved: eight(s, 32) / 65536,
+        }
+    }
+}
+
+impl Record<16> for RelocationRecord {
+    ghost read = { relocation_record };
+
+    fn from_bytes(s: &[u8]) -> Self {
+        RelocationRecord {
+            offset: eight(s, 0),
+            symbol: SymbolIndex(four(s, 8)),
+            size: s[12],
+            // Behind the size.
+            reserved: four(s, 12) / 256,
         }
     }
 }
 
 // A deposit's section record i, counted from 0; before its rules are checked.
+#[tactic(auto, unfolding(crate::specs::Records::deposit_section))]
 pub fn deposit_section(d: &[u8], i: u32) -> SectionRecord
     ensures { result ≡ deposit_section d.now i }
 {
-    section_at(d, 32 + 48 * size(i))
+    record_at(d, 32 + 48 * i as usize)
 }
 
 // Where the tables begin, and where the stream ends.
 pub fn symbols_at(h: Head) -> usize
     ensures { (result ≡ symbols_at h) × (result < 2 ^ 40) }
 {
-    32 + 48 * size(h.sections)
+    32 + 48 * h.sections as usize
 }
 
 pub fn relocations_at(h: Head) -> usize
     ensures { (result ≡ relocations_at h) × (result < 2 ^ 41) }
 {
-    symbols_at(h) + 40 * size(h.symbols)
+    symbols_at(h) + 40 * h.symbols as usize
 }
 
 pub fn names_at(h: Head) -> usize
     ensures { (result ≡ names_at h) × (result < 2 ^ 42) }
 {
-    relocations_at(h) + 16 * size(h.relocations)
+    relocations_at(h) + 16 * h.relocations as usize
 }
 
 pub fn data_at(h: Head) -> usize
     ensures { (result ≡ data_at h) × (result < 2 ^ 43) }
 {
-    names_at(h) + size(h.names)
+    names_at(h) + h.names as usize
 }
 
+#[tactic(auto, unfolding(model::specs::Deposit::end_of))]
 pub fn end_of(h: Head) -> usize
     ensures { (result ≡ end_of h) × (result < 2 ^ 44) }
 {
-    data_at(h) + size(h.bytes)
+    data_at(h) + h.bytes as usize
 }
 
-fn symbol_of(s: &[u8]) -> SymbolRecord
-    requires { length s.now ≡ 40 }
-    ensures { result ≡ symbol_record s.now }
-{
-    SymbolRecord {
-        index: SymbolIndex(four(s, 0)),
-        section: SectionIndex(four(s, 4)),
-        name: extent(s, 8),
-        address: eight(s, 16),
-        size: eight(s, 24),
-        kind: s[32],
-        definition: s[33],
-        // Behind kind and definition.
-        reserved: eight(s, 32) / 65536,
-    }
-}
-
-// The symbol record at byte p of a deposit's stream.
-fn symbol_at(d: &[u8], p: usize) -> SymbolRecord
-    requires { p < 2 ^ 60 }
-    ensures { result ≡ symbol_record (bytes_at d.now 4 p 40) }
-{
-    match spot_of(d, 4, p, 40) {
-        Spot::Together(at) => {
-            let end = at + 40;
-            symbol_of(&d[at..end])
-        }
-        Spot::Apart => {
-            let mut s = [0u8; 40];
-            copy_bytes(d, 4, p, &mut s);
-            symbol_of(&s)
-        }
-    }
-}
-
+#[tactic(auto, unfolding(crate::specs::Records::deposit_symbol))]
 pub fn deposit_symbol(d: &[u8], h: Head, i: u32) -> SymbolRecord
     ensures { result ≡ deposit_symbol d.now h i }
 {
-    symbol_at(d, symbols_at(h) + 40 * size(i))
+    record_at(d, symbols_at(h) + 40 * i as usize)
 }
 
-fn relocation_of(s: &[u8]) -> RelocationRecord
-    requires { length s.now ≡ 16 }
-    ensures { result ≡ relocation_record s.now }
-{
-    RelocationRecord {
-        offset: eight(s, 0),
-        symbol: SymbolIndex(four(s, 8)),
-        size: s[12],
-        // Behind the size.
-        reserved: four(s, 12) / 256,
-    }
-}
-
-// The relocation record at byte p of a deposit's stream.
-fn relocation_at(d: &[u8], p: usize) -> RelocationRecord
-    requires { p < 2 ^ 60 }
-    ensures { result ≡ relocation_record (bytes_at d.now 4 p 16) }
-{
-    match spot_of(d, 4, p, 16) {
-        Spot::Together(at) => {
-            let end = at + 16;
-            relocation_of(&d[at..end])
-        }
-        Spot::Apart => {
-            let mut s = [0u8; 16];
-            copy_bytes(d, 4, p, &mut s);
-            relocation_of(&s)
-        }
-    }
-}
-
+#[tactic(auto, unfolding(crate::specs::Records::deposit_relocation))]
 pub fn deposit_relocation(d: &[u8], h: Head, i: u32) -> RelocationRecord
     ensures { result ≡ deposit_relocation d.now h i }
 {
-    relocation_at(d, relocations_at(h) + 16 * size(i))
+    record_at(d, relocations_at(h) + 16 * i as usize)
 }
 
 // ---- the view
 
+#[tactic(auto, using(std::proofs::lemmas::Bool::Decides::nat_tests), unfolding(model::specs::Deposit::byte_order))]
 fn byte_order(order: u32) -> Endianness
     ensures { result ≡ byte_order order }
 {
@@ -203,14 +200,14 @@ fn byte_order(order: u32) -> Endianness
 }
 
 // The view of a deposit with this head.
+#[tactic(auto, unfolding(crate::specs::View::deposit_view, model::specs::Deposit::end_of))]
 pub fn deposit_view(h: Head) -> View
     requires { end_of h < 2 ^ 32 }
     ensures { result ≡ deposit_view h }
 {
-    let order = byte_order(h.order);
     View {
         form: Form::Deposit,
-        order,
+        order: byte_order(h.order),
         sections: h.sections,
         symbols: h.symbols,
         relocations: h.relocations,
@@ -232,126 +229,130 @@ pub fn deposit_view(h: Head) -> View
 pub fn gap(v: View) -> usize
     ensures { (result ≡ gap_of v) × (result ≤ 4) }
 {
-    let form = v.form;
-    match form {
+    match v.form {
         Form::Deposit => 4,
         Form::Elf => 0,
+    }
+}
+
+// The stream that a view's places count.
+pub fn stream(d: &[u8], v: View) -> Stream<'_>
+    ensures bytes { result.bytes.now ≡ d.now }
+    ensures gap { result.gap ≡ gap_of v }
+{
+    Stream {
+        bytes: d,
+        gap: gap(v),
     }
 }
 
 // ---- whole records
 
 // Section record i, counted from 0.
+#[tactic(auto, unfolding(crate::specs::View::section_at, elf_records::specs::Elf::elf_section))]
 pub fn section(d: &[u8], t: &[u32], v: View, i: u32) -> SectionRecord
     ensures { result ≡ section_at d.now t.now v i }
 {
-    let form = v.form;
-    match form {
-        Form::Deposit => section_at(d, size(v.at.sections) + 48 * size(i)),
+    match v.form {
+        Form::Deposit => record_at(d, v.at.sections as usize + 48 * i as usize),
         Form::Elf => elf_records::section(d, t, v, i),
     }
 }
 
+#[tactic(auto, unfolding(crate::specs::View::symbol_at, elf_records::specs::Elf::elf_symbol))]
 pub fn symbol(d: &[u8], t: &[u32], v: View, i: u32) -> SymbolRecord
     ensures { result ≡ symbol_at d.now t.now v i }
 {
-    let form = v.form;
-    match form {
-        Form::Deposit => symbol_at(d, size(v.at.symbols) + 40 * size(i)),
+    match v.form {
+        Form::Deposit => record_at(d, v.at.symbols as usize + 40 * i as usize),
         Form::Elf => elf_records::symbol(d, t, v, i),
     }
 }
 
+#[tactic(auto, unfolding(crate::specs::View::relocation_at, elf_records::specs::Elf::elf_relocation))]
 pub fn relocation(d: &[u8], t: &[u32], v: View, i: u32) -> RelocationRecord
     ensures { result ≡ relocation_at d.now t.now v i }
 {
-    let form = v.form;
-    match form {
-        Form::Deposit => relocation_at(d, size(v.at.relocations) + 16 * size(i)),
+    match v.form {
+        Form::Deposit => record_at(d, v.at.relocations as usize + 16 * i as usize),
         Form::Elf => elf_records::relocation(d, t, v, i),
     }
 }
 
 // ---- single fields
 
-// A range of a deposit's record: its two numbers are read as one.
-fn extent_at(d: &[u8], p: usize) -> Extent
-    requires { p < 2 ^ 60 }
-    ensures { result ≡ extent_at d.now 4 p }
-{
-    let both = u64_at(d, 4, p);
-    Extent {
-        at: (both % 4294967296) as u32,
-        length: (both / 4294967296) as u32,
-    }
-}
-
+#[tactic(auto, unfolding(crate::specs::View::section_at, elf_records::specs::Elf::elf_section))]
 pub fn section_index(d: &[u8], t: &[u32], v: View, i: u32) -> SectionIndex
     ensures { result ≡ (section_at d.now t.now v i).index }
 {
-    let form = v.form;
-    match form {
-        Form::Deposit => SectionIndex(u32_at(d, 4, size(v.at.sections) + 48 * size(i))),
+    match v.form {
+        Form::Deposit => SectionIndex(deposit_stream(d).u32_at(
+            v.at.sections as usize + 48 * i as usize,
+        )),
         Form::Elf => elf_records::section_index(i),
     }
 }
 
+#[tactic(auto, unfolding(crate::specs::View::section_at, elf_records::specs::Elf::elf_section))]
 pub fn section_name(d: &[u8], t: &[u32], v: View, i: u32) -> Extent
     ensures { result ≡ (section_at d.now t.now v i).name }
 {
-    let form = v.form;
-    match form {
-        Form::Deposit => extent_at(d, size(v.at.sections) + 48 * size(i) + 8),
+    match v.form {
+        Form::Deposit => record_at(d, v.at.sections as usize + 48 * i as usize + 8),
         Form::Elf => elf_records::section_name(d, t, v, i),
     }
 }
 
+#[tactic(auto, unfolding(crate::specs::View::symbol_at, elf_records::specs::Elf::elf_symbol))]
 pub fn symbol_section(d: &[u8], t: &[u32], v: View, i: u32) -> SectionIndex
     ensures { result ≡ (symbol_at d.now t.now v i).section }
 {
-    let form = v.form;
-    match form {
-        Form::Deposit => SectionIndex(u32_at(d, 4, size(v.at.symbols) + 40 * size(i) + 4)),
+    match v.form {
+        Form::Deposit => SectionIndex(deposit_stream(d).u32_at(
+            v.at.symbols as usize + 40 * i as usize + 4,
+        )),
         Form::Elf => elf_records::symbol_section(d, v, i),
     }
 }
 
+#[tactic(auto, unfolding(crate::specs::View::symbol_at, elf_records::specs::Elf::elf_symbol))]
 pub fn symbol_name(d: &[u8], t: &[u32], v: View, i: u32) -> Extent
     ensures { result ≡ (symbol_at d.now t.now v i).name }
 {
-    let form = v.form;
-    match form {
-        Form::Deposit => extent_at(d, size(v.at.symbols) + 40 * size(i) + 8),
+    match v.form {
+        Form::Deposit => record_at(d, v.at.symbols as usize + 40 * i as usize + 8),
         Form::Elf => elf_records::symbol_name(d, t, v, i),
     }
 }
 
+#[tactic(auto, unfolding(crate::specs::View::symbol_at, elf_records::specs::Elf::elf_symbol))]
 pub fn symbol_address(d: &[u8], t: &[u32], v: View, i: u32) -> u64
     ensures { result ≡ (symbol_at d.now t.now v i).address }
 {
-    let form = v.form;
-    match form {
-        Form::Deposit => u64_at(d, 4, size(v.at.symbols) + 40 * size(i) + 16),
+    match v.form {
+        Form::Deposit => deposit_stream(d).u64_at(v.at.symbols as usize + 40 * i as usize + 16),
         Form::Elf => elf_records::symbol_address(d, v, i),
     }
 }
 
+#[tactic(auto, unfolding(crate::specs::View::relocation_at, elf_records::specs::Elf::elf_relocation))]
 pub fn relocation_offset(d: &[u8], t: &[u32], v: View, i: u32) -> u64
     ensures { result ≡ (relocation_at d.now t.now v i).offset }
 {
-    let form = v.form;
-    match form {
-        Form::Deposit => u64_at(d, 4, size(v.at.relocations) + 16 * size(i)),
+    match v.form {
+        Form::Deposit => deposit_stream(d).u64_at(v.at.relocations as usize + 16 * i as usize),
         Form::Elf => elf_records::relocation_offset(d, t, v, i),
     }
 }
 
+#[tactic(auto, unfolding(crate::specs::View::relocation_at, elf_records::specs::Elf::elf_relocation))]
 pub fn relocation_symbol(d: &[u8], t: &[u32], v: View, i: u32) -> SymbolIndex
     ensures { result ≡ (relocation_at d.now t.now v i).symbol }
 {
-    let form = v.form;
-    match form {
-        Form::Deposit => SymbolIndex(u32_at(d, 4, size(v.at.relocations) + 16 * size(i) + 8)),
+    match v.form {
+        Form::Deposit => SymbolIndex(deposit_stream(d).u32_at(
+            v.at.relocations as usize + 16 * i as usize + 8,
+        )),
         Form::Elf => elf_records::relocation_symbol(d, t, v, i),
     }
 }
@@ -360,13 +361,31 @@ pub fn relocation_symbol(d: &[u8], t: &[u32], v: View, i: u32) -> SymbolIndex
 pub fn name_at(v: View, e: Extent) -> usize
     ensures { (result ≡ v.at.names + e.at) × (result < 2 ^ 33) }
 {
-    size(v.at.names) + size(e.at)
+    v.at.names as usize + e.at as usize
 }
 
 pub fn data_place(v: View, e: Extent) -> usize
     ensures { (result ≡ v.at.bytes + e.at) × (result < 2 ^ 33) }
 {
-    size(v.at.bytes) + size(e.at)
+    v.at.bytes as usize + e.at as usize
+}
+
+// The name that a record's range stands for.
+pub fn name(d: &[u8], v: View, e: Extent) -> Span<'_>
+    ensures bytes { bytes_of result ≡ name_in d.now v e }
+    ensures len { result.len ≡ e.length }
+    ensures at { result.at < 2 ^ 33 }
+{
+    stream(d, v).span(name_at(v, e), e.length as usize)
+}
+
+// The data that a record's range stands for.
+pub fn data_of(d: &[u8], v: View, e: Extent) -> Span<'_>
+    ensures bytes { bytes_of result ≡ data_in d.now v e }
+    ensures len { result.len ≡ e.length }
+    ensures at { result.at < 2 ^ 33 }
+{
+    stream(d, v).span(data_place(v, e), e.length as usize)
 }
 
 // ---- maps
@@ -379,14 +398,14 @@ pub enum MapSource {
 }
 
 // The source of the map that has number n.
+#[tactic(auto, using(std::proofs::lemmas::Bool::Decides::nat_tests), unfolding(crate::specs::Maps::map_source_of))]
 pub fn map_source(v: View, n: u32) -> MapSource
     ensures { result ≡ map_source_of v.sections n }
 {
-    let sections = v.sections;
-    if n < sections {
+    if n < v.sections {
         MapSource::Section(n)
     } else {
-        MapSource::Symbol(n - sections)
+        MapSource::Symbol(n - v.sections)
     }
 }
 
@@ -402,6 +421,7 @@ pub fn map_number(sections: u32, source: MapSource) -> u32
 }
 
 // The range of the name of map number n.
+#[tactic(auto, unfolding(crate::specs::Maps::map_name_at))]
 pub fn map_name(d: &[u8], t: &[u32], v: View, n: u32) -> Extent
     ensures { result ≡ map_name_at d.now t.now v n }
 {
@@ -418,12 +438,6 @@ pub struct Cursor {
     pub end: u32,
 }
 
-#[derive(Clone, Copy)]
-pub enum Step {
-    Record(u32, Cursor),
-    End,
-}
-
 impl Cursor {
     // Over all of a table.
     pub fn new(end: u32) -> Self
@@ -433,15 +447,18 @@ impl Cursor {
     }
 
     // The next number, with the cursor moved past it.
-    pub fn next(self) -> Step
+    #[tactic(auto, using(std::proofs::lemmas::Bool::Decides::nat_tests), unfolding(crate::specs::Records::step_of))]
+    pub fn next(self) -> Option<(u32, Cursor)>
         ensures { result ≡ step_of self }
     {
-        let at = self.at;
-        let end = self.end;
-        if at < end {
-            Step::Record(at, Cursor { at: at + 1, end })
+        if self.at < self.end {
+            let next = Cursor {
+                at: self.at + 1,
+                ..self
+            };
+            Some((self.at, next))
         } else {
-            Step::End
+            None
         }
     }
 }

@@ -1,18 +1,28 @@
 // Each line of the input is a case, in the form of crates/replay_lines. What it lends is filled with a pattern before the call.
 #![tactic(auto)]
 
-ghost use Rattle.std.specs.Prelude.{◌≤◌, length, IfOk};
+ghost use Rattle.std.specs.Prelude.{◌≡◌, ◌≤◌, length, IfOk};
 
+use input::{byte_room, read_full};
 use load_elf_numbers::load_flat_elf;
 use load_numbers::load_flat;
-use model::Answer;
-use replay_lines::Case;
+use model::{Refusal, Summary};
+use replay_lines::{Case, read_case, tell};
 use std::io;
 use std::io::Read;
 
-mod room;
+// What a case lends to be written holds a pattern before the call. The contracts tell the length alone, so no proof of a caller computes on it.
+fn patterned_numbers<const N: usize>() -> [u64; N]
+    ensures { N ≡ length result }
+{
+    [0xa5a5a5a5a5a5a5a5; N]
+}
 
-use replay_lines::{find, least, read_case, tell};
+fn patterned_bytes<const N: usize>() -> [u8; N]
+    ensures { N ≡ length result }
+{
+    [0xa5; N]
+}
 
 // What is loaded is 0 for a deposit, 2 for a file; one more is with rewriting.
 fn load(
@@ -26,7 +36,7 @@ fn load(
     maps: &mut [u64],
     relocations: &mut [u64],
     bytes: &mut [u8],
-) -> Answer {
+) -> Result<Summary, Refusal> {
     let rewrite = what % 2 == 1;
     if what < 2 {
         load_flat(
@@ -83,7 +93,7 @@ fn replay(
         relocations,
         bytes,
     );
-    let mut out = room::answer();
+    let mut out = byte_room::<262144>();
     tell(
         rt,
         name,
@@ -113,12 +123,12 @@ fn lend(
     relocations: &mut [u64],
     bytes: &mut [u8],
 ) -> io::Result<()> {
-    let a = least(rest[1], sections.len());
-    let b = least(rest[2], programs.len());
-    let f = least(rest[3], functions.len());
-    let m = least(rest[4], maps.len());
-    let r = least(rest[5], relocations.len());
-    let y = least(rest[6], bytes.len());
+    let a = (rest[1] as usize).min(sections.len());
+    let b = (rest[2] as usize).min(programs.len());
+    let f = (rest[3] as usize).min(functions.len());
+    let m = (rest[4] as usize).min(maps.len());
+    let r = (rest[5] as usize).min(relocations.len());
+    let y = (rest[6] as usize).min(bytes.len());
     replay(
         rt,
         name,
@@ -126,12 +136,12 @@ fn lend(
         entries,
         patches,
         rest[0],
-        &mut sections[0..a],
-        &mut programs[0..b],
-        &mut functions[0..f],
-        &mut maps[0..m],
-        &mut relocations[0..r],
-        &mut bytes[0..y],
+        &mut sections[..a],
+        &mut programs[..b],
+        &mut functions[..f],
+        &mut maps[..m],
+        &mut relocations[..r],
+        &mut bytes[..y],
     )
 }
 
@@ -144,12 +154,12 @@ fn run_case(
     patches: &[u8],
     rest: [u64; 7],
 ) -> io::Result<()> {
-    let mut sections = room::rows();
-    let mut programs = room::rows();
-    let mut functions = room::functions();
-    let mut maps = room::wide_rows();
-    let mut relocations = room::wide_rows();
-    let mut bytes = room::bytes();
+    let mut sections = patterned_numbers::<4096>();
+    let mut programs = patterned_numbers::<4096>();
+    let mut functions = patterned_numbers::<16384>();
+    let mut maps = patterned_numbers::<8192>();
+    let mut relocations = patterned_numbers::<8192>();
+    let mut bytes = patterned_bytes::<131072>();
     lend(
         rt,
         name,
@@ -175,19 +185,12 @@ fn run_parts(
     entries: &[u64],
     patches: &[u8],
 ) -> io::Result<()> {
-    let name = least(case.name as u64, s.len());
-    let n = least(case.deposit as u64, d.len());
-    let e = least(case.entries as u64, entries.len());
-    let p = least(case.patches as u64, patches.len());
+    let name = case.name.min(s.len());
+    let n = case.deposit.min(d.len());
+    let e = case.entries.min(entries.len());
+    let p = case.patches.min(patches.len());
     let rest = case.rest;
-    run_case(
-        rt,
-        &s[0..name],
-        &d[0..n],
-        &entries[0..e],
-        &patches[0..p],
-        rest,
-    )
+    run_case(rt, &s[..name], &d[..n], &entries[..e], &patches[..p], rest)
 }
 
 fn run_line(
@@ -201,54 +204,22 @@ fn run_line(
     run_parts(rt, case, s, d, entries, patches)
 }
 
-// Runs the lines that have their end; where the rest begins.
+// Runs the lines that have their end; how long the rest is.
 fn run(
     rt: &impl Print,
     text: &[u8],
     d: &mut [u8],
     entries: &mut [u64],
     patches: &mut [u8],
-) -> io::Result<usize> {
-    let mut at: usize = 0;
-    while at < text.len() {
-        let end = find(text, at, b'\n');
-        if end == text.len() {
-            break;
-        }
-        run_line(rt, &text[at..end], d, entries, patches)?;
-        at = end + 1;
-    }
-    Ok(at)
-}
-
-// Moves the part from `at` to `end` to the front; how long it is.
-fn keep(text: &mut [u8], at: usize, end: usize) -> usize
-    requires at_le_end { at ≤ end }
-    requires end_in_bounds { end ≤ length text.old }
-    ensures { result ≤ length text.new }
+) -> io::Result<usize>
+    ensures { IfOk result (λ n. n ≤ length text.now) }
 {
-    let n = end - at;
-    let mut i: usize = 0;
-    while i < n {
-        text[i] = text[at + i];
-        i += 1;
+    let mut rest = text;
+    while let Some(n) = rest.iter().position(|c| *c == b'\n') {
+        run_line(rt, &rest[..n], d, entries, patches)?;
+        rest = &rest[n + 1..];
     }
-    n
-}
-
-// Reads until text is full or the input ends; how many bytes it put at the start of text.
-fn read_full(input: &mut impl Read, text: &mut [u8]) -> io::Result<usize>
-    ensures { IfOk result (λ n. n ≤ length text.new) }
-{
-    let mut done: usize = 0;
-    while done < text.len() {
-        let n = input.read(&mut text[done..])?;
-        if n == 0 {
-            break;
-        }
-        done += n;
-    }
-    Ok(done)
+    Ok(rest.len())
 }
 
 // Reads behind the first `kept` bytes; where what was read ends.
@@ -257,7 +228,7 @@ fn read_behind(input: &mut impl Read, text: &mut [u8], kept: usize) -> io::Resul
     ensures { IfOk result (λ end. end ≤ length text.new) }
 {
     let n = read_full(input, &mut text[kept..])?;
-    Ok(least((kept + n) as u64, text.len()))
+    Ok(kept + n)
 }
 
 // Runs the whole lines of the first `end` bytes; how many bytes are left, at the front.
@@ -272,8 +243,12 @@ fn run_part(
     requires { end ≤ length text.old }
     ensures { IfOk result (λ n. n ≤ length text.new) }
 {
-    let at = run(rt, &text[0..end], d, entries, patches)?;
-    Ok(keep(text, least(at as u64, end), end))
+    let left = run(rt, &text[..end], d, entries, patches)?;
+    let at = end - left;
+    for i in 0..left {
+        text[i] = text[at + i];
+    }
+    Ok(left)
 }
 
 // The room is filled at most 64 times. What the input has behind that isn't run, nor what stands from a line on that the room doesn't hold.
@@ -286,18 +261,16 @@ fn run_all(
 ) -> io::Result<()> {
     let mut input = rt.reader();
     let mut kept: usize = 0;
-    let mut left: usize = 64;
-    while left > 0 {
+    for _ in 0..64 {
         let end = read_behind(&mut input, text, kept)?;
         kept = run_part(rt, text, end, d, entries, patches)?;
-        left -= 1;
     }
     Ok(())
 }
 
 fn main(rt: HostRuntime) -> io::Result<()> {
-    let mut text = room::text();
-    let mut d = room::deposit();
+    let mut text = byte_room::<524288>();
+    let mut d = byte_room::<2097152>();
     let mut entries = [0u64; 1024];
     let mut patches = [0u8; 8192];
     run_all(&rt, &mut text, &mut d, &mut entries, &mut patches)

@@ -5,168 +5,86 @@
 // is x and n more of it.
 #![tactic(auto)]
 
-ghost use Rattle.std.specs.Prelude.{◌+◌, ◌<◌, ◌≤◌, length};
+ghost use Rattle.std.specs.Prelude.{◌<◌, ◌≤◌, length};
 
-use model::{Answer, Endianness, KernelVersion, Refusal, Summary};
-use std::num::wrapping_add_u64;
-use stream::wide64;
-
-pub fn least(x: u64, y: usize) -> usize
-    ensures { result ≤ y }
-{
-    let n = y as u64;
-    if x < n { x as usize } else { y }
-}
+use model::{Endianness, Refusal, Summary};
 
 // ---- reading
 
-// A number, and where it ends.
-#[derive(Clone, Copy)]
-struct Token {
-    value: u64,
-    end: usize,
-}
-
-// The value of a hexadecimal digit, 16 where c is none.
-fn digit(c: u8) -> u64
+// 16 where c is no hexadecimal digit.
+fn digit(c: u8) -> u16
     ensures { result ≤ 16 }
 {
     match c {
-        b'0'..=b'9' => (c - b'0') as u64,
-        b'a'..=b'f' => (c - b'a') as u64 + 10,
+        b'0'..=b'9' => u16::from(c - b'0'),
+        b'a'..=b'f' => u16::from(c - b'a') + 10,
         _ => 16,
     }
 }
 
-// The number behind the byte at `at`.
-fn number(s: &[u8], at: usize) -> Token
-    requires { at < length s.now }
-    ensures { (at < result.end) × (result.end ≤ length s.now) }
+// The number in front of s, up to a digit that would not fit, and how many digits it has.
+fn number(s: &[u8]) -> (u64, usize)
+    ensures { result.1 ≤ length s.now }
 {
-    let mut v: u64 = 0;
-    let mut i = at + 1;
-    while i < s.len() {
-        let x = digit(s[i]);
-        if x > 9 {
-            break;
+    let mut value: u64 = 0;
+    for (i, c) in s.iter().enumerate() {
+        if !c.is_ascii_digit() || value > u64::MAX / 10 {
+            return (value, i);
         }
-        if v > 1844674407370955161 {
-            break;
-        }
-        v = wrapping_add_u64(v * 10, x);
-        i += 1;
+        value = (value * 10).wrapping_add(u64::from(*c - b'0'));
     }
-    Token { value: v, end: i }
+    (value, s.len())
 }
 
-// Where byte c stands from `at` on, or the end.
-pub fn find(s: &[u8], at: usize, c: u8) -> usize
-    requires { at ≤ length s.now }
-    ensures { (at ≤ result) × (result ≤ length s.now) }
-{
-    let mut i = at;
-    while i < s.len() {
-        if s[i] == c {
-            break;
-        }
-        i += 1;
+// The word in front of s, and what is behind the space that ends it.
+fn split_word(s: &[u8]) -> (&[u8], &[u8]) {
+    match s.iter().position(|c| *c == b' ') {
+        Some(n) => (&s[..n], &s[n + 1..]),
+        None => (s, &s[s.len()..]),
     }
-    i
-}
-
-// Where the word behind the one that ends at `at` ends.
-fn word_end(s: &[u8], at: usize) -> usize
-    requires { at ≤ length s.now }
-    ensures { (at ≤ result) × (result ≤ length s.now) }
-{
-    if at < s.len() {
-        return find(s, at + 1, b' ');
-    }
-    at
 }
 
 // The byte in front of `at`, `count` more times; where that ends.
 fn repeat(out: &mut [u8], at: usize, count: u64) -> usize {
-    if at == 0 {
-        return at;
-    }
-    if at > out.len() {
+    if at == 0 || at > out.len() {
         return at;
     }
     let b = out[at - 1];
-    let mut i = at;
-    let mut left = count;
-    while left > 0 {
-        if i >= out.len() {
-            break;
-        }
-        out[i] = b;
-        i += 1;
-        left -= 1;
-    }
-    i
+    let end = at + (count as usize).min(out.len() - at);
+    out[at..end].fill(b);
+    end
 }
 
-// The next place of a text, and of the bytes that it makes.
-#[derive(Clone, Copy)]
-struct Step {
-    next: usize,
-    used: usize,
-}
-
-fn unpack_next(s: &[u8], i: usize, out: &mut [u8], n: usize) -> Step
-    requires { i < length s.now }
-    ensures { (i < result.next) × (result.next ≤ length s.now + 1) }
-{
-    if s[i] == b'(' {
-        let more = number(s, i);
-        return Step {
-            next: more.end + 1,
-            used: repeat(out, n, more.value),
-        };
-    }
-    if s.len() - i < 2 {
-        return Step {
-            next: i + 1,
-            used: n,
-        };
-    }
-    let b = digit(s[i]) * 16 + digit(s[i + 1]);
-    Step {
-        next: i + 2,
-        used: put(out, n, (b % 256) as u8),
-    }
-}
-
-// The bytes of a text behind its first byte; how many they are.
+// The bytes of a text; how many they are.
 fn unpack(s: &[u8], out: &mut [u8]) -> usize {
-    let mut n: usize = 0;
-    let mut i: usize = 1;
-    while i < s.len() {
-        let step = unpack_next(s, i, out, n);
-        i = step.next;
-        n = step.used;
+    let mut n = 0;
+    let mut i = 0;
+    // A step is as wide as what stands at i, so no range walks the text.
+    while i + 1 < s.len() {
+        if s[i] == b'(' {
+            let (more, digits) = number(&s[i + 1..]);
+            n = repeat(out, n, more);
+            i += digits + 2;
+        } else {
+            n = put(out, n, ((digit(s[i]) * 16 + digit(s[i + 1])) % 256) as u8);
+            i += 2;
+        }
     }
     n
 }
 
-// The numbers of a text, each behind one byte; how many they are.
+// The numbers of a text, with a byte between two; how many they are.
 fn numbers(s: &[u8], out: &mut [u64]) -> usize {
-    let mut n: usize = 0;
-    let mut i: usize = 0;
-    while i < s.len() {
-        if n >= out.len() {
-            break;
+    let mut rest = s;
+    for (n, x) in out.iter_mut().enumerate() {
+        let (value, digits) = number(rest);
+        if digits == 0 {
+            return n;
         }
-        let x = number(s, i);
-        if x.end == i + 1 {
-            break;
-        }
-        out[n] = x.value;
-        n += 1;
-        i = x.end;
+        *x = value;
+        rest = &rest[(digits + 1).min(rest.len())..];
     }
-    n
+    out.len()
 }
 
 // ---- writing: text goes into `out` from `at` on, as far as there is room, and the answer is where it ends
@@ -181,10 +99,8 @@ fn put(out: &mut [u8], at: usize, b: u8) -> usize {
 
 fn put_text(out: &mut [u8], at: usize, s: &[u8]) -> usize {
     let mut end = at;
-    let mut i: usize = 0;
-    while i < s.len() {
-        end = put(out, end, s[i]);
-        i += 1;
+    for b in s {
+        end = put(out, end, *b);
     }
     end
 }
@@ -203,71 +119,38 @@ fn put_next(out: &mut [u8], at: usize, n: u64) -> usize {
 
 fn put_hex(out: &mut [u8], at: usize, b: u8) -> usize {
     let digits = b"0123456789abcdef";
-    let end = put(out, at, digits[(b / 16) as usize]);
-    put(out, end, digits[(b % 16) as usize])
+    let end = put(out, at, digits[usize::from(b / 16)]);
+    put(out, end, digits[usize::from(b % 16)])
 }
 
 // How many more there are of a value, if any.
-fn put_more(out: &mut [u8], at: usize, n: u64) -> usize {
+fn put_more(out: &mut [u8], at: usize, n: usize) -> usize {
     if n == 0 {
         return at;
     }
     let start = put(out, at, b'(');
-    let end = put_number(out, start, n);
+    let end = put_number(out, start, n as u64);
     put(out, end, b')')
-}
-
-// Where the run of the value at `at` ends.
-fn run8(s: &[u8], at: usize) -> usize
-    requires { at < length s.now }
-    ensures { (at < result) × (result ≤ length s.now) }
-{
-    let x = s[at];
-    let mut i = at + 1;
-    while i < s.len() {
-        if s[i] != x {
-            break;
-        }
-        i += 1;
-    }
-    i
-}
-
-fn run64(s: &[u64], at: usize) -> usize
-    requires { at < length s.now }
-    ensures { (at < result) × (result ≤ length s.now) }
-{
-    let x = s[at];
-    let mut i = at + 1;
-    while i < s.len() {
-        if s[i] != x {
-            break;
-        }
-        i += 1;
-    }
-    i
 }
 
 fn put_bytes(out: &mut [u8], at: usize, s: &[u8]) -> usize {
     let mut end = put_text(out, at, b"bytes ");
-    let mut i: usize = 0;
-    while i < s.len() {
-        let next = run8(s, i);
-        end = put_hex(out, end, s[i]);
-        end = put_more(out, end, (next - i - 1) as u64);
-        i = next;
+    for run in s.chunk_by(|a, b| a == b) {
+        if let Some((first, more)) = run.split_first() {
+            end = put_hex(out, end, *first);
+            end = put_more(out, end, more.len());
+        }
     }
     put(out, end, b'\n')
 }
 
 fn put_table(out: &mut [u8], at: usize, name: &[u8], s: &[u64]) -> usize {
     let mut end = put_text(out, at, name);
-    let mut i: usize = 0;
-    while i < s.len() {
-        let next = run64(s, i);
-        end = put_next(out, end, s[i]);
-        end = put_more(out, end, (next - i - 1) as u64);
-        i = next;
+    for run in s.chunk_by(|a, b| a == b) {
+        if let Some((first, more)) = run.split_first() {
+            end = put_next(out, end, *first);
+            end = put_more(out, end, more.len());
+        }
     }
     put(out, end, b'\n')
 }
@@ -279,10 +162,10 @@ fn order_number(o: Endianness) -> u64 {
     }
 }
 
-fn put_version(out: &mut [u8], at: usize, v: KernelVersion) -> usize {
+fn put_version(out: &mut [u8], at: usize, v: Option<u32>) -> usize {
     match v {
-        KernelVersion::Any => put_text(out, at, b" any"),
-        KernelVersion::Version(n) => put_next(out, at, wide64(n)),
+        None => put_text(out, at, b" any"),
+        Some(n) => put_next(out, at, u64::from(n)),
     }
 }
 
@@ -296,48 +179,30 @@ fn put_counts(out: &mut [u8], at: usize, s: Summary) -> usize {
 }
 
 fn put_summary(out: &mut [u8], at: usize, s: Summary) -> usize {
-    let order = s.order;
-    let version = s.version;
     let mut end = put_text(out, at, b" accepted");
-    end = put_next(out, end, order_number(order));
-    end = put_version(out, end, version);
+    end = put_next(out, end, order_number(s.order));
+    end = put_version(out, end, s.version);
     end = put_next(out, end, s.license);
     put_counts(out, end, s)
 }
 
 fn put_refusal(out: &mut [u8], at: usize, r: Refusal) -> usize {
     let mut end = put_text(out, at, b" refused");
-    end = put_next(out, end, wide64(r.number));
-    end = put_next(out, end, wide64(r.section.0));
-    end = put_next(out, end, wide64(r.symbol.0));
+    end = put_next(out, end, u64::from(r.number));
+    end = put_next(out, end, u64::from(r.section.0));
+    end = put_next(out, end, u64::from(r.symbol.0));
     put_next(out, end, r.entry)
 }
 
-fn put_answer(out: &mut [u8], at: usize, a: Answer) -> usize {
+fn put_answer(out: &mut [u8], at: usize, a: Result<Summary, Refusal>) -> usize {
     match a {
-        Answer::Accepted(s) => put_summary(out, at, s),
-        Answer::Refused(r) => put_refusal(out, at, r),
+        Ok(s) => put_summary(out, at, s),
+        Err(r) => put_refusal(out, at, r),
     }
 }
 
-fn zeros8(s: &[u8]) -> bool {
-    if s.len() == 0 {
-        return true;
-    }
-    if s[0] != 0 {
-        return false;
-    }
-    run8(s, 0) == s.len()
-}
-
-fn zeros64(s: &[u64]) -> bool {
-    if s.len() == 0 {
-        return true;
-    }
-    if s[0] != 0 {
-        return false;
-    }
-    run64(s, 0) == s.len()
+fn zeros(s: &[u64]) -> bool {
+    s.iter().all(|n| *n == 0)
 }
 
 fn all_zero(
@@ -348,12 +213,12 @@ fn all_zero(
     relocations: &[u64],
     bytes: &[u8],
 ) -> bool {
-    zeros64(sections)
-        && zeros64(programs)
-        && zeros64(functions)
-        && zeros64(maps)
-        && zeros64(relocations)
-        && zeros8(bytes)
+    zeros(sections)
+        && zeros(programs)
+        && zeros(functions)
+        && zeros(maps)
+        && zeros(relocations)
+        && bytes.iter().all(|b| *b == 0)
 }
 
 fn put_lent(
@@ -381,7 +246,7 @@ fn put_lent(
 pub fn tell(
     rt: &impl Print,
     name: &[u8],
-    answer: Answer,
+    answer: Result<Summary, Refusal>,
     sections: &[u64],
     programs: &[u64],
     functions: &[u64],
@@ -403,8 +268,7 @@ pub fn tell(
         relocations,
         bytes,
     );
-    let n = least(end as u64, out.len());
-    rt.write_all(&out[0..n])
+    rt.write_all(&out[..end.min(out.len())])
 }
 
 // ---- a case
@@ -420,17 +284,17 @@ pub struct Case {
 }
 
 pub fn read_case(s: &[u8], d: &mut [u8], entries: &mut [u64], patches: &mut [u8]) -> Case {
-    let name = find(s, 0, b' ');
-    let deposit = word_end(s, name);
-    let listed = word_end(s, deposit);
-    let lent = word_end(s, listed);
+    let (name, s) = split_word(s);
+    let (deposit, s) = split_word(s);
+    let (listed, s) = split_word(s);
+    let (data, lent) = split_word(s);
     let mut rest = [0u64; 7];
-    numbers(&s[lent..], &mut rest);
+    numbers(lent, &mut rest);
     Case {
-        name,
-        deposit: unpack(&s[name..deposit], d),
-        entries: numbers(&s[deposit..listed], entries),
-        patches: unpack(&s[listed..lent], patches),
+        name: name.len(),
+        deposit: unpack(deposit, d),
+        entries: numbers(listed, entries),
+        patches: unpack(data, patches),
         rest,
     }
 }

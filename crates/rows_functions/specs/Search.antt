@@ -1,5 +1,5 @@
 -- The search by halves as the code goes: what is left of it, halving by halving.
-use Rattle.std.specs.Prelude.{◌≡◌, Bool, List, length, get_or}
+use Rattle.std.specs.Prelude.{◌≡◌, Bool, List, length, get_or, None, Option, Some}
 use Rattle.std.proofs.Math.Path.{refl, sym}
 use Rattle.std.proofs.Common.{◌∙◌, not-suc-le-zero}
 use Rattle.std.proofs.Math.Bool.{true, false, cond}
@@ -7,12 +7,11 @@ use Prim.Native.Nat.{ℕ, zero, suc, ◌+◌, ◌-◌, ◌<◌, ◌≤◌, min}
 use native.Mathlib.Omega.{arith}
 use borrow.Author.Tests.{ltb-false, lt-ltb, le-ltb}
 use Rattle.std.proofs.Math.Dec.{ltb}
-use Rattle.model.specs.declared.Found.{Found}
 use Rattle.model.specs.declared.Function.{Function}
 use Rattle.model.specs.Bytes.{same, before}
 use Rattle.model.specs.Lent.{zero_row}
 use Rattle.model.specs.LookUp.{row_key, middle, searched, found_in}
-use Rattle.orders.specs.declared.Ordering.{Ordering}
+use Rattle.std.specs.declared.cmp.Ordering.{Ordering}
 use Rattle.orders.specs.Compare.{by_tests, ordering}
 use Rattle.rows_functions.specs.declared.Search.{Search}
 
@@ -21,7 +20,7 @@ middle_of s = middle s.low s.high
 
 -- the rows from low up to high are left
 abbrev pub rows_left : ℕ → ℕ → Search
-rows_left low high = record { low = low; high = high; found = Found.Nothing }
+rows_left low high = record { low = low; high = high; found = None }
 
 abbrev pub begun : ℕ → ℕ → Search
 begun count n = rows_left 0 (min count n)
@@ -29,7 +28,7 @@ begun count n = rows_left 0 (min count n)
 -- which rows are left of a search, by how the key of the row in its middle m stands to the key
 abbrev pub narrowed_by : Search → ℕ → Ordering → Search
 narrowed_by s m Ordering.Less = rows_left (m + 1) s.high
-narrowed_by s m Ordering.Equal = record { low = m; high = m; found = Found.At m }
+narrowed_by s m Ordering.Equal = record { low = m; high = m; found = Some m }
 narrowed_by s m Ordering.Greater = rows_left s.low m
 
 module _ (k : List ℕ) where
@@ -60,20 +59,20 @@ module _ (k : List ℕ) where
         go Ordering.Greater = omega arith
 
   module _ (fs : List Function) where
-    none_left : (n low high : ℕ) → high ≤ low → searched fs k n low high ≡ Found.Nothing
+    none_left : (n low high : ℕ) → high ≤ low → searched fs k n low high ≡ None
     unfolding searched
     none_left zero low high h = refl
     none_left (suc n) low high h = rw (le-ltb low high h)
 
     -- what a search comes to, by n halvings at most
-    unfoldable pub found_by : ℕ → Search → Found
+    unfoldable pub found_by : ℕ → Search → Option ℕ
     found_by n s = cond (ltb s.low s.high) (searched fs k n s.low s.high) s.found
 
     found_left : (n low high : ℕ) → found_by n (rows_left low high) ≡ searched fs k n low high
     unfolding found_by
     found_left n low high = go (ltb low high) refl
       where
-        go : (b : Bool) → ltb low high ≡ b → cond b (searched fs k n low high) Found.Nothing ≡ searched fs k n low high
+        go : (b : Bool) → ltb low high ≡ b → cond b (searched fs k n low high) None ≡ searched fs k n low high
         go true e = refl
         go false e = sym (none_left n low high (ltb-false low high e))
 
@@ -87,12 +86,12 @@ module _ (k : List ℕ) where
 
     narrowed-found : (n : ℕ) (s : Search) (f : Function)
         → found_by n (narrowed s f)
-        ≡ cond (same (row_key f) k) (Found.At (middle_of s)) (cond (before (row_key f) k) (searched fs k n (middle_of s + 1) s.high) (searched fs k n s.low (middle_of s)))
+        ≡ cond (same (row_key f) k) (Some (middle_of s)) (cond (before (row_key f) k) (searched fs k n (middle_of s + 1) s.high) (searched fs k n s.low (middle_of s)))
     unfolding narrowed ordering
     narrowed-found n s f = go (same (row_key f) k) (before (row_key f) k)
       where
-        go : (t u : Bool) → found_by n (narrowed_by s (middle_of s) (by_tests t u)) ≡ cond t (Found.At (middle_of s)) (cond u (searched fs k n (middle_of s + 1) s.high) (searched fs k n s.low (middle_of s)))
-        go true u = found-end n (record { low = middle_of s; high = middle_of s; found = Found.At (middle_of s) }) (omega arith)
+        go : (t u : Bool) → found_by n (narrowed_by s (middle_of s) (by_tests t u)) ≡ cond t (Some (middle_of s)) (cond u (searched fs k n (middle_of s + 1) s.high) (searched fs k n s.low (middle_of s)))
+        go true u = found-end n (record { low = middle_of s; high = middle_of s; found = Some (middle_of s) }) (omega arith)
         go false true = found_left n (middle_of s + 1) s.high
         go false false = found_left n s.low (middle_of s)
 

@@ -1,20 +1,18 @@
 // The function table in a lent slice of structs: its rows stored in the order of a table of record numbers, and the look-up of a row by section and address.
 #![tactic(auto)]
 
-ghost use Rattle.std.specs.Prelude.{◌≡◌, [], ◌∷◌, ◌+◌, ◌<◌, min, length};
+ghost use Rattle.std.specs.Prelude.{◌≡◌, [], ◌∷◌, ◌<◌, length};
 ghost use Rattle.model.specs.Lent.{zero_row};
 ghost use Rattle.model.specs.LookUp.{row_key, found_in};
-ghost use Rattle.model.specs.Symbols.{top};
 ghost use Rattle.records.specs.Readable.{Readable};
 ghost use Rattle.rows_functions.specs.Rows.{ReadableRows, row_made, made_of, rows_made};
 ghost use Rattle.orders.specs.Compare.{ordering};
 ghost use Rattle.rows_functions.specs.Search.{middle_of, begun, narrowed};
 
-use model::{Found, Function, Range, SectionIndex};
+use model::{Function, Range, SectionIndex};
 use object::code_offset;
 use object_view::View;
-use orders::Ordering;
-use stream::wide64;
+use std::cmp::Ordering;
 use symbol_section::member_at;
 
 // Which rows are left to store: those of the first `count` numbers, and where the next name and the next code lie.
@@ -32,17 +30,6 @@ pub struct Made {
     pub rest: Rows,
 }
 
-// A sum that stays at the largest number.
-fn capped_sum(x: u64, y: u64) -> u64
-    ensures { result ≡ min (x + y) top }
-{
-    if y <= 18446744073709551615 - x {
-        x + y
-    } else {
-        18446744073709551615
-    }
-}
-
 // The row of symbol record j.
 fn row(d: &[u8], t: &[u32], j: u32, rows: Rows) -> Made
     requires { Readable d.now t.now rows.view }
@@ -52,12 +39,11 @@ fn row(d: &[u8], t: &[u32], j: u32, rows: Rows) -> Made
     let m = member_at(d, t, v, j);
     let y = m.symbol;
     let s = m.section;
-    let index = s.index;
-    let name = wide64(y.name.length);
+    let name = u64::from(y.name.length);
     let code = y.size / 8 * 8;
     Made {
         row: Function {
-            section: index,
+            section: s.index,
             address: y.address,
             offset: code_offset(d, t, v, s, y),
             name: Range {
@@ -72,8 +58,8 @@ fn row(d: &[u8], t: &[u32], j: u32, rows: Rows) -> Made
         rest: Rows {
             view: v,
             count: rows.count,
-            name: capped_sum(rows.name, name),
-            code: capped_sum(rows.code, code),
+            name: rows.name.saturating_add(name),
+            code: rows.code.saturating_add(code),
         },
     }
 }
@@ -109,14 +95,11 @@ pub fn fill(functions: &mut [Function], d: &[u8], t: &[u32], symbols: &[u32], ro
     requires { ReadableRows d.now t.now rows }
     ensures { functions.new ≡ rows_made d.now t.now symbols.now 0 rows (length functions.old) }
 {
-    let n = functions.len();
     let mut at = rows;
-    let mut i = 0;
-    while i < n {
+    for i in 0..functions.len() {
         let m = next_row(d, t, symbols, i, at);
         functions[i] = m.row;
         at = m.rest;
-        i += 1;
     }
 }
 
@@ -125,7 +108,7 @@ pub fn fill(functions: &mut [Function], d: &[u8], t: &[u32], symbols: &[u32], ro
 pub struct Search {
     pub low: usize,
     pub high: usize,
-    pub found: Found,
+    pub found: Option<usize>,
 }
 
 fn compare(f: Function, section: SectionIndex, address: u64) -> Ordering
@@ -152,8 +135,8 @@ fn begin(count: usize, n: usize) -> Search
 {
     Search {
         low: 0,
-        high: if count < n { count } else { n },
-        found: Found::Nothing,
+        high: count.min(n),
+        found: None,
     }
 }
 
@@ -174,26 +157,32 @@ fn narrow(s: Search, f: Function, section: SectionIndex, address: u64) -> Search
         Ordering::Less => Search {
             low: m + 1,
             high: s.high,
-            found: Found::Nothing,
+            found: None,
         },
         Ordering::Equal => Search {
             low: m,
             high: m,
-            found: Found::At(m),
+            found: Some(m),
         },
         Ordering::Greater => Search {
             low: s.low,
             high: m,
-            found: Found::Nothing,
+            found: None,
         },
     }
 }
 
 // The place of a function among the first `count` rows, by halves: they are ordered by section and address.
-pub fn find(functions: &[Function], count: usize, section: SectionIndex, address: u64) -> Found
+pub fn find(
+    functions: &[Function],
+    count: usize,
+    section: SectionIndex,
+    address: u64,
+) -> Option<usize>
     ensures { result ≡ found_in functions.now count (section.0 ∷ address ∷ []) }
 {
     let mut s = begin(count, functions.len());
+    // Each turn halves what is left, so no range counts the turns.
     while s.low < s.high {
         let m = middle(s);
         s = narrow(s, functions[m], section, address);

@@ -14,14 +14,12 @@ ghost use Rattle.rows_maps.specs.Rows.{Read, seven_words, numbers, map_rows};
 ghost use Rattle.rows_maps.specs.Maps.{legacy_at, RecordWithin};
 
 use bytes_maps::own_length;
-use lists::zero64;
 use map_def::{parse_data_map_section, parse_map_def};
 use model::{BpfMapDef, EbpfSectionKind};
 use object::kind_of;
 use object_view::View;
-use records::{MapSource, data_place, gap, map_source, section};
-use rows_programs::put7;
-use stream::{size, wide64};
+use records::{MapSource, data_place, map_source, section, stream};
+use rows_sections::put_row;
 use symbol_section::member_at;
 
 // A row without the places of its name and of its own bytes.
@@ -62,8 +60,8 @@ fn data_row(d: &[u8], t: &[u32], v: View, n: u32, i: u32) -> Row
     let s = section(d, t, v, i);
     let kind = kind_of(d, t, v, s);
     Row {
-        length: size(s.name.length),
-        section: wide64(s.index.0),
+        length: s.name.length as usize,
+        section: u64::from(s.index.0),
         kind: kind_number(kind),
         symbol: 0,
         own: own_length(d, t, v, n),
@@ -81,12 +79,12 @@ fn legacy_row(d: &[u8], t: &[u32], v: View, j: u32) -> Row
     let s = m.section;
     let at = data_place(v, s.bytes) + y.address as usize;
     Row {
-        length: size(y.name.length),
-        section: wide64(s.index.0),
+        length: y.name.length as usize,
+        section: u64::from(s.index.0),
         kind: kind_number(EbpfSectionKind::Maps),
-        symbol: wide64(y.index.0),
+        symbol: u64::from(y.index.0),
         own: 0,
-        def: parse_map_def(d, gap(v), at, y.size as usize),
+        def: parse_map_def(stream(d, v).span(at, y.size as usize)),
     }
 }
 
@@ -100,32 +98,19 @@ fn map_row(d: &[u8], t: &[u32], v: View, n: u32) -> Row
     }
 }
 
-fn put_words(t: &mut [u64], i: usize, def: BpfMapDef)
-    requires { i + 7 ≤ length t.old }
-    ensures { t.new ≡ sets t.old i (seven_words def) }
+// The words as the numbers of a row.
+fn wide_words(def: BpfMapDef) -> [u64; 7]
+    ensures { result ≡ seven_words def }
 {
-    let w = def.words;
-    put7(
-        t,
-        i,
-        wide64(w[0]),
-        wide64(w[1]),
-        wide64(w[2]),
-        wide64(w[3]),
-        wide64(w[4]),
-        wide64(w[5]),
-        wide64(w[6]),
-    );
+    def.words.map(u64::from)
 }
 
 // A row at i, with its two places.
-fn put_row(t: &mut [u64], i: usize, place: usize, own: usize, r: Row)
+fn put_map_row(t: &mut [u64], i: usize, place: usize, own: usize, r: Row)
     requires { i + 27 ≤ length t.old }
     ensures { t.new ≡ sets t.old i (numbers place own r) }
 {
-    put7(
-        t,
-        i,
+    let front = [
         place as u64,
         r.length as u64,
         r.section,
@@ -133,12 +118,11 @@ fn put_row(t: &mut [u64], i: usize, place: usize, own: usize, r: Row)
         r.symbol,
         own as u64,
         r.own as u64,
-    );
-    let def = r.def;
-    put_words(t, i + 7, def);
-    let a = i + 14;
-    let b = i + 27;
-    zero64(&mut t[a..b]);
+    ];
+    put_row(t, i, front);
+    let words = wide_words(r.def);
+    put_row(t, i + 7, words);
+    t[i + 14..i + 27].fill(0);
 }
 
 // The rows of the first n maps of `numbers`: their names lie one after the other from `at` on, their own bytes from `own` on.
@@ -163,12 +147,10 @@ pub fn put_map_rows(
 {
     let mut place = at;
     let mut own_place = own;
-    let mut k: usize = 0;
-    while k < n {
+    for k in 0..n {
         let r = map_row(d, t, v, numbers[k]);
-        put_row(out, k * 27, place, own_place, r);
+        put_map_row(out, k * 27, place, own_place, r);
         place += r.length;
         own_place += r.own;
-        k += 1;
     }
 }

@@ -7,29 +7,25 @@ ghost use Rattle.model.specs.FunctionNumbers.{row_numbers, flat_rows, rows_in};
 ghost use Rattle.model.specs.Lent.{filled};
 ghost use Rattle.rows_functions.specs.Rows.{ReadableRows, rows_made};
 
-use lists::zero64;
 use model::Function;
 use rows_functions::{Rows, next_row};
-use rows_programs::put7;
-use stream::wide64;
+use rows_sections::put_row;
 
 // Row i, in a table of rows.
 fn store_row(numbers: &mut [u64], i: usize, f: Function)
     requires { i * 7 + 7 ≤ length numbers.old }
     ensures { numbers.new ≡ sets numbers.old (i * 7) (row_numbers f) }
 {
-    let section = wide64(f.section.0);
-    put7(
-        numbers,
-        i * 7,
-        section,
+    let row = [
+        u64::from(f.section.0),
         f.address,
         f.offset,
         f.name.at,
         f.name.length,
         f.code.at,
         f.code.length,
-    );
+    ];
+    put_row(numbers, i * 7, row);
 }
 
 // As many rows as the numbers have room for, and zeros behind.
@@ -41,13 +37,11 @@ pub fn fill_rows(numbers: &mut [u64], d: &[u8], t: &[u32], symbols: &[u32], rows
 {
     let n = numbers.len() / 7;
     let mut at = rows;
-    let mut i = 0;
-    while i < n {
+    for i in 0..n {
         let m = next_row(d, t, symbols, i, at);
         let row = m.row;
         store_row(numbers, i, row);
         at = m.rest;
-        i += 1;
     }
-    zero64(&mut numbers[n * 7..]);
+    numbers[n * 7..].fill(0);
 }

@@ -1,16 +1,15 @@
 // The rows of the program table: where a program's name lies, its length, the variant with its two values, the section's index and the address.
 #![tactic(auto)]
 
-ghost use Rattle.std.specs.Prelude.{◌≡◌, [], ◌∷◌, ◌++◌, ◌+◌, ◌*◌, ◌^◌, ◌<◌, ◌≤◌, length, take, drop};
-ghost use Rattle.std.proofs.lemmas.List.Edits.{sets};
+ghost use Rattle.std.specs.Prelude.{◌≡◌, ◌++◌, ◌+◌, ◌*◌, ◌^◌, ◌<◌, ◌≤◌, length, take, drop};
 ghost use Rattle.catalogue_numbers.specs.Numbers.{program_by_number};
 ghost use Rattle.records.specs.Readable.{Readable};
 ghost use Rattle.rows_programs.specs.Rows.{program_row_of, program_rows};
 
 use object_view::View;
 use program_section::variant_numbers;
-use records::{gap, name_at};
-use stream::{size, wide64};
+use records::name;
+use rows_sections::put_row;
 use symbol_section::member_at;
 
 // A row without the place of its name.
@@ -32,30 +31,15 @@ fn program_row(d: &[u8], t: &[u32], v: View, j: u32) -> Row
     let m = member_at(d, t, v, j);
     let y = m.symbol;
     let s = m.section;
-    let name = name_at(v, s.name);
-    let variant = variant_numbers(d, gap(v), name, size(s.name.length));
+    let variant = variant_numbers(name(d, v, s.name));
     Row {
-        length: size(y.name.length),
+        length: y.name.length as usize,
         number: variant.number,
         first: variant.first,
         second: variant.second,
-        section: wide64(s.index.0),
+        section: u64::from(s.index.0),
         address: y.address,
     }
-}
-
-// Seven numbers at i.
-pub fn put7(t: &mut [u64], i: usize, a: u64, b: u64, c: u64, e: u64, f: u64, g: u64, k: u64)
-    requires { i + 7 ≤ length t.old }
-    ensures { t.new ≡ sets t.old i (a ∷ b ∷ c ∷ e ∷ f ∷ g ∷ k ∷ []) }
-{
-    t[i] = a;
-    t[i + 1] = b;
-    t[i + 2] = c;
-    t[i + 3] = e;
-    t[i + 4] = f;
-    t[i + 5] = g;
-    t[i + 6] = k;
 }
 
 // The rows of the programs of the first n symbols of `numbers`, whose names lie one after the other from `at` on.
@@ -72,12 +56,9 @@ pub fn put_program_rows(
     ensures { out.new ≡ program_rows d.now t.now v at (take n numbers.now) ++ drop (n * 7) out.old }
 {
     let mut place = at;
-    let mut k: usize = 0;
-    while k < n {
+    for k in 0..n {
         let r = program_row(d, t, v, numbers[k]);
-        put7(
-            out,
-            k * 7,
+        let row = [
             place as u64,
             r.length as u64,
             r.number,
@@ -85,8 +66,8 @@ pub fn put_program_rows(
             r.second,
             r.section,
             r.address,
-        );
+        ];
+        put_row(out, k * 7, row);
         place += r.length;
-        k += 1;
     }
 }

@@ -1,1 +1,1 @@
-pub mod Tags
+pub mod Firsts

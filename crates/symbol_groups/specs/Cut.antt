@@ -1,7 +1,6 @@
 -- Where a walk over sorted symbol numbers stops: before the first that is not below a section's number, and behind the last that has it.
-use Rattle.std.specs.Prelude.{◌≡◌, refl, Bool, true, false, cond, List, [], ◌∷◌, ℕ, ◌+◌, ◌<◌, ◌≤◌, length, get_or}
+use Rattle.std.specs.Prelude.{◌≡◌, refl, Bool, true, false, cond, List, [], ◌∷◌, ℕ, ◌+◌, ◌<◌, ◌≤◌, length, get_or, None, Some}
 use Rattle.std.proofs.Common.{sym, arith, eqb-true}
-use Rattle.std.proofs.Math.Option.{none, some}
 use Rattle.std.proofs.Math.Seq.{slice}
 use Rattle.lists.specs.Slice.{slice-more, slice-none}
 use Rattle.object_view.specs.declared.View.{View}
@@ -20,7 +19,7 @@ pub raw-is : (d t : List ℕ) (v : View) (r : SymbolRecord) → raw_section (sym
 unfolding symbol_from
 raw-is d t v r = go (is_none r.section.0) refl
   where
-    go : (b : Bool) → is_none r.section.0 ≡ b → maybe (cond b none (some r.section)) no_index (λ (k : SectionIndex). k.0) ≡ r.section.0
+    go : (b : Bool) → is_none r.section.0 ≡ b → maybe (cond b None (Some r.section)) no_index (λ (k : SectionIndex). k.0) ≡ r.section.0
     go true e = sym (eqb-true r.section.0 no_index e)
     go false e = refl
 

@@ -32,14 +32,12 @@ pub fn group_start(
     requires { from ≤ length symbols.now }
     ensures { Start d.now t.now v symbols.now from k.0 result }
 {
-    let mut at = from;
-    while at < symbols.len() {
+    for at in from..symbols.len() {
         if records::symbol_section(d, t, v, symbols[at]).0 >= k.0 {
             return at;
         }
-        at += 1;
     }
-    at
+    symbols.len()
 }
 
 // Past the symbols of section k.
@@ -54,12 +52,10 @@ pub fn group_end(
     requires { from ≤ length symbols.now }
     ensures { End d.now t.now v symbols.now from k.0 result }
 {
-    let mut at = from;
-    while at < symbols.len() {
+    for at in from..symbols.len() {
         if records::symbol_section(d, t, v, symbols[at]).0 != k.0 {
             return at;
         }
-        at += 1;
     }
-    at
+    symbols.len()
 }

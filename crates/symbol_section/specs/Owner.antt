@@ -1,8 +1,7 @@
 -- The number of the section that has an index, and of the one that a symbol lies in: `owner` and `home` of a deposit's records.
-use Rattle.std.specs.Prelude.{◌≡◌, Bool, true, false, ◌&&◌, List, ℕ, ◌+◌, ◌<◌, ◌≤◌, ltb}
+use Rattle.std.specs.Prelude.{◌≡◌, Bool, true, false, ◌&&◌, List, ℕ, ◌+◌, ◌<◌, ◌≤◌, ltb, None, Option, Some, unwrap_or}
 use Rattle.std.proofs.Math.Path.{refl}
 use Rattle.std.proofs.Common.{⊎_elim, le_refl, eq-or-lt_of_le, lt_trans, le_trans, le_of_lt, arith}
-use Rattle.std.proofs.Math.Option.{Option, none, some}
 use borrow.Author.Tests.{eqb-true, eq-eqb, ne_eqb, ltb-true, ltb-false, lt-ltb}
 use Rattle.std.proofs.Math.Dec.{eqb}
 use Rattle.lists.specs.Tests.{true-not-false, both_true}
@@ -15,15 +14,6 @@ use Rattle.records.specs.View.{section_at, symbol_at}
 use Rattle.records.specs.Readable.{SectionsRise}
 use Rattle.catalogue_laws.specs.SectionsPrograms.{owner, owner-is, none-up, home}
 use Rattle.object.specs.View.{section_from, symbol_from, section_in, symbol_in, rising}
-use Rattle.symbol_section.specs.declared.Owner.{Owner}
-
-abbrev pub owner_of : Option ℕ → Owner
-owner_of none = Owner.Nothing
-owner_of (some i) = Owner.Section i
-
-abbrev pub number_of : Owner → ℕ
-number_of Owner.Nothing = 0
-number_of (Owner.Section i) = i
 
 module _ (d t : List ℕ) (v : View) where
   -- r records have indexes below k, and no other
@@ -60,26 +50,26 @@ module _ (d t : List ℕ) (v : View) where
   unfolding symbol_from
   home-by-record j = refl
 
-  owned : SectionsRise d t v → (i : ℕ) → i < v.sections → owner_in (section_at d t v i).index.0 ≡ some i
+  owned : SectionsRise d t v → (i : ℕ) → i < v.sections → owner_in (section_at d t v i).index.0 ≡ Some i
   unfolding section_from
   owned rise i l = owner-is v.order (section_in d t v) v.sections (symbol_in d t v) v.symbols (rising d t v rise) i l
 
-  nobody : (k : ℕ) → ((i : ℕ) → i < v.sections → (section_at d t v i).index.0 ≡ k → ⊥) → owner_in k ≡ none
+  nobody : (k : ℕ) → ((i : ℕ) → i < v.sections → (section_at d t v i).index.0 ≡ k → ⊥) → owner_in k ≡ None
   unfolding owner section_from
   nobody k n =
       none-up v.order (section_in d t v) v.sections (symbol_in d t v) v.symbols (λ i. eqb (section_at d t v i).index.0 k) v.sections
       (λ i l. ne_eqb (section_at d t v i).index.0 k (n i l))
 
   module _ (rise : SectionsRise d t v) (k r : ℕ) where
-    found_at : r < v.sections → (section_at d t v r).index.0 ≡ k → owner_of (owner_in k) ≡ Owner.Section r
+    found_at : r < v.sections → (section_at d t v r).index.0 ≡ k → owner_in k ≡ Some r
     found_at l e = rw (← e, owned rise r l)
 
-    pub found : has_index k r ≡ true → owner_of (owner_in k) ≡ Owner.Section r
+    pub found : has_index k r ≡ true → owner_in k ≡ Some r
     found h =
         let (l, e) = both_true (ltb r v.sections) (eqb (section_at d t v r).index.0 k) h in
         found_at (ltb-true r v.sections l) (eqb-true (section_at d t v r).index.0 k e)
 
-    pub not_found : FirstNotBelow k r → has_index k r ≡ false → owner_of (owner_in k) ≡ Owner.Nothing
+    pub not_found : FirstNotBelow k r → has_index k r ≡ false → owner_in k ≡ None
     not_found f h = rw (nobody k none_has)
       where
         n : r < v.sections → (section_at d t v r).index.0 ≡ k → ⊥
@@ -98,9 +88,9 @@ module _ (d t : List ℕ) (v : View) where
     pub home-none : is_none y.section.0 ≡ true → 0 ≡ home_of y
     home-none e = rw e
 
-    home_by : (o : Option ℕ) (w : Owner) → w ≡ owner_of o → number_of w ≡ maybe o 0 (λ i. i)
-    home_by none w e = rw e
-    home_by (some i) w e = rw e
+    home_by : (o : Option ℕ) → unwrap_or o 0 ≡ maybe o 0 (λ i. i)
+    home_by None = refl
+    home_by (Some i) = refl
 
-    pub home_some : (w : Owner) → is_none y.section.0 ≡ false → w ≡ owner_of (owner_in y.section.0) → number_of w ≡ home_of y
-    home_some w n e = rw n (home_by (owner_in y.section.0) w e)
+    pub home_some : is_none y.section.0 ≡ false → unwrap_or (owner_in y.section.0) 0 ≡ home_of y
+    home_some n = rw n (home_by (owner_in y.section.0))

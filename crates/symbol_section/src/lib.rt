@@ -5,18 +5,11 @@
 ghost use Rattle.std.specs.Prelude.{◌≡◌, ◌-◌};
 ghost use Rattle.records.specs.View.{section_at, symbol_at};
 ghost use Rattle.records.specs.Readable.{Readable};
-ghost use Rattle.symbol_section.specs.Owner.{FirstNotBelow, has_index, owner_of, owner_in, home_of, home_in};
+ghost use Rattle.symbol_section.specs.Owner.{FirstNotBelow, has_index, owner_in, home_of, home_in};
 
 use model::{SectionIndex, SectionRecord, SymbolRecord};
 use object_view::{View, is_no_section};
 use records::section_index;
-
-// The number of the section record that has an index.
-#[derive(Clone, Copy)]
-pub enum Owner {
-    Section(u32),
-    Nothing,
-}
 
 // A symbol with the section that it lies in.
 #[derive(Clone, Copy)]
@@ -29,8 +22,7 @@ pub struct Member {
 fn guess(d: &[u8], t: &[u32], v: View, k: SectionIndex) -> u32
     ensures { result ≡ k.0 - (section_at d.now t.now v 0).index.0 }
 {
-    let first = section_index(d, t, v, 0);
-    if first.0 < k.0 { k.0 - first.0 } else { 0 }
+    k.0.saturating_sub(section_index(d, t, v, 0).0)
 }
 
 // Whether section record i has index k.
@@ -47,6 +39,7 @@ fn lower_bound(d: &[u8], t: &[u32], v: View, k: SectionIndex) -> u32
 {
     let mut low: u32 = 0;
     let mut high: u32 = v.sections;
+    // the part that is left is halved, so its ends aren't a range to walk
     while low < high {
         let middle = low + (high - low) / 2;
         if section_index(d, t, v, middle).0 < k.0 {
@@ -58,19 +51,19 @@ fn lower_bound(d: &[u8], t: &[u32], v: View, k: SectionIndex) -> u32
     low
 }
 
-pub fn section_of(d: &[u8], t: &[u32], v: View, index: SectionIndex) -> Owner
+pub fn section_of(d: &[u8], t: &[u32], v: View, index: SectionIndex) -> Option<u32>
     requires { Readable d.now t.now v }
-    ensures { result ≡ owner_of (owner_in d.now t.now v index.0) }
+    ensures { result ≡ owner_in d.now t.now v index.0 }
 {
     let near = guess(d, t, v, index);
     if has_index(d, t, v, near, index) {
-        return Owner::Section(near);
+        return Some(near);
     }
     let i = lower_bound(d, t, v, index);
     if has_index(d, t, v, i, index) {
-        Owner::Section(i)
+        Some(i)
     } else {
-        Owner::Nothing
+        None
     }
 }
 
@@ -83,10 +76,7 @@ pub fn section_of_symbol(d: &[u8], t: &[u32], v: View, y: SymbolRecord) -> u32
     if is_no_section(index) {
         return 0;
     }
-    match section_of(d, t, v, index) {
-        Owner::Section(i) => i,
-        Owner::Nothing => 0,
-    }
+    section_of(d, t, v, index).unwrap_or(0)
 }
 
 // Symbol j with its section.

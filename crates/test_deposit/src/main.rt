@@ -8,84 +8,41 @@
 // byte order, sections, symbols, relocations, and where the names and the data begin.
 #![tactic(auto)]
 
-ghost use Rattle.std.specs.Prelude.{◌≡◌, ◌+◌, ◌^◌, ◌<◌, ◌≤◌, length, IfOk};
+ghost use Rattle.std.specs.Prelude.{◌≡◌, ◌-◌, ◌^◌, ◌<◌, ◌≤◌, length};
 
-use model::{Endianness, Head};
-use object_view::Opened;
+use input::{byte_room, read_full};
+use model::{Endianness, Head, Refusal};
+use object_view::View;
 use records::{end_of, names_at, relocations_at, symbols_at};
 use std::io;
-use std::io::Read;
 use std::num::wrapping_add_u32;
-use stream::{size, wide32};
 
-// A number of a line, and where it ends.
-#[derive(Clone, Copy)]
-struct Token {
-    value: u32,
-    end: usize,
-}
-
-// 10 where c is no digit.
-fn digit(c: u8) -> u64
-    ensures { result ≤ 10 }
+// The word in front of s, and what is behind the byte c that ends it.
+fn cut(s: &[u8], c: u8) -> (&[u8], &[u8])
+    ensures { length result.1.now ≤ length s.now - 1 }
 {
-    if c < b'0' {
-        return 10;
+    match s.iter().position(|x| *x == c) {
+        Some(n) => (&s[..n], &s[n + 1..]),
+        None => (s, &s[s.len()..]),
     }
-    if c > b'9' {
-        return 10;
-    }
-    (c - b'0') as u64
 }
 
-fn narrow(v: u64) -> u32 {
-    if v < 4294967296 { v as u32 } else { 4294967295 }
-}
-
-// The number behind the space at `at`.
-fn number(s: &[u8], at: usize) -> Token
-    requires { at ≤ length s.now }
-    ensures { result.end ≤ length s.now }
+// The number in front of s, and what is behind the byte that ends it.
+fn number(s: &[u8]) -> (u32, &[u8])
+    ensures { length result.1.now ≤ length s.now - 1 }
 {
-    let mut v: u64 = 0;
-    let mut i = at;
-    if i < s.len() {
-        i += 1;
-    }
-    while i < s.len() {
-        let x = digit(s[i]);
-        if x == 10 {
-            break;
+    let mut value: u32 = 0;
+    for (i, c) in s.iter().enumerate() {
+        match c {
+            b'0'..=b'9' => {
+                value = value
+                    .saturating_mul(10)
+                    .saturating_add(u32::from(*c - b'0'));
+            }
+            _ => return (value, &s[i + 1..]),
         }
-        if v > 4294967296 {
-            break;
-        }
-        v = v * 10 + x;
-        i += 1;
     }
-    Token {
-        value: narrow(v),
-        end: i,
-    }
-}
-
-// Where byte c stands from `at` on, or the end.
-fn find(s: &[u8], at: usize, c: u8) -> usize
-    requires { at ≤ length s.now }
-    ensures { (at ≤ result) × (result ≤ length s.now) }
-{
-    let mut i = at;
-    while i < s.len() {
-        if s[i] == c {
-            break;
-        }
-        i += 1;
-    }
-    i
-}
-
-fn low(x: u32) -> u8 {
-    (x % 256) as u8
+    (value, &s[s.len()..])
 }
 
 // Byte p of the stream.
@@ -101,10 +58,11 @@ fn put(d: &mut [u8], p: usize, v: u8) {
 fn put32(d: &mut [u8], p: usize, v: u32)
     requires { p < 2 ^ 60 }
 {
-    put(d, p, low(v));
-    put(d, p + 1, low(v / 256));
-    put(d, p + 2, low(v / 65536));
-    put(d, p + 3, low(v / 16777216));
+    let b = v.to_le_bytes();
+    put(d, p, b[0]);
+    put(d, p + 1, b[1]);
+    put(d, p + 2, b[2]);
+    put(d, p + 3, b[3]);
 }
 
 // A number of each of `count` records of w bytes, the first at p: the first is v, and each is `more` above the one before.
@@ -113,15 +71,13 @@ fn put_each(d: &mut [u8], p: usize, w: usize, count: u32, v: u32, more: u32)
 {
     let mut at = p;
     let mut x = v;
-    let mut i: u32 = 0;
-    while i < count {
+    for _ in 0..count {
         if at > 4000000 {
             break;
         }
         put32(d, at, x);
         at += w;
         x = wrapping_add_u32(x, more);
-        i += 1;
     }
 }
 
@@ -147,86 +103,66 @@ fn weigh(b: &[u8]) -> u32
 {
     let mut some: u32 = 0;
     let mut sum: u32 = 0;
-    let mut k: usize = 508;
-    while k > 0 {
-        k -= 1;
-        some = wrapping_add_u32(some, wide32(b[k]));
+    for x in b[..508].iter().rev() {
+        some = wrapping_add_u32(some, u32::from(*x));
         sum = wrapping_add_u32(sum, some);
     }
     sum
 }
 
-// The check of the block at i, whose number is n.
-fn put_check(d: &mut [u8], i: usize, n: u32)
-    requires { i + 512 ≤ length d.old }
+// The check of a block, whose number is n.
+fn put_check(block: &mut [u8], n: u32)
+    requires { length block.old ≡ 512 }
 {
-    let sum = wrapping_add_u32(weigh(&d[i..i + 512]), n);
-    d[i + 508] = low(sum);
-    d[i + 509] = low(sum / 256);
-    d[i + 510] = low(sum / 65536);
-    d[i + 511] = low(sum / 16777216);
+    let sum = wrapping_add_u32(weigh(block), n);
+    block[508..].copy_from_slice(&sum.to_le_bytes());
 }
 
 fn put_checks(d: &mut [u8]) {
     let mut n: u32 = 0;
-    let mut i: usize = 0;
-    while i < d.len() {
-        if d.len() - i < 512 {
-            break;
-        }
+    for block in d.chunks_exact_mut(512) {
         n = wrapping_add_u32(n, 1);
-        put_check(d, i, n);
-        i += 512;
+        put_check(block, n);
     }
 }
 
 // The changes of the stream, or those of the deposit.
-fn change(d: &mut [u8], s: &[u8], from: usize, deposit: bool)
-    requires { from ≤ length s.now }
-{
-    let mut at = from;
-    while at < s.len() {
-        let kind = number(s, at);
-        let place = number(s, kind.end);
-        let value = number(s, place.end);
-        if value.end <= at {
-            break;
-        }
-        at = value.end;
-        change_one(d, deposit, kind.value, size(place.value), value.value);
+fn change(d: &mut [u8], s: &[u8], deposit: bool) {
+    let mut rest = s;
+    // A change is as wide as its three numbers, so no range walks the line.
+    while rest.len() > 0 {
+        let (kind, behind) = number(rest);
+        let (place, behind) = number(behind);
+        let (value, behind) = number(behind);
+        change_one(d, deposit, kind, place as usize, value);
+        rest = behind;
     }
 }
 
 fn change_one(d: &mut [u8], deposit: bool, kind: u32, i: usize, v: u32)
     requires { i < 2 ^ 60 }
 {
-    if deposit {
-        if kind == 0 {
+    let low = v.to_le_bytes()[0];
+    match (deposit, kind) {
+        (true, 0) => {
             if i < d.len() {
-                d[i] = low(v);
+                d[i] = low;
             }
         }
-        return;
-    }
-    if kind == 1 {
-        put(d, i, low(v));
-        return;
-    }
-    if kind == 4 {
-        put32(d, i, v);
+        (false, 1) => put(d, i, low),
+        (false, 4) => put32(d, i, v),
+        _ => {}
     }
 }
 
 // Lays a deposit out in d, which is whole blocks.
-fn build(d: &mut [u8], h: Head, s: &[u8], at: usize)
-    requires { at ≤ length s.now }
-{
-    lists::zero8(d);
+fn build(d: &mut [u8], h: Head, s: &[u8]) {
+    d.fill(0);
     put_head(d, h);
     put_tables(d, h);
-    change(d, s, at, false);
+    change(d, s, false);
     put_checks(d);
-    change(d, s, at, true);
+    change(d, s, true);
 }
 
 fn say_number(rt: &impl Print, n: u32) -> io::Result<()> {
@@ -240,26 +176,19 @@ fn order_number(order: Endianness) -> u32 {
     }
 }
 
-fn say_opened(rt: &impl Print, o: Opened) -> io::Result<()> {
+fn say_opened(rt: &impl Print, o: Result<View, Refusal>) -> io::Result<()> {
     match o {
-        Opened::View(v) => {
-            let order = v.order;
+        Ok(v) => {
             say_number(rt, 0)?;
-            say_number(rt, order_number(order))?;
+            say_number(rt, order_number(v.order))?;
             say_number(rt, v.sections)?;
             say_number(rt, v.symbols)?;
             say_number(rt, v.relocations)?;
             say_number(rt, v.at.names)?;
             say_number(rt, v.at.bytes)
         }
-        Opened::Refused(r) => say_number(rt, r.number),
+        Err(r) => say_number(rt, r.number),
     }
-}
-
-fn least(x: usize, y: usize) -> usize
-    ensures { result ≤ y }
-{
-    if x < y { x } else { y }
 }
 
 // How many bytes are opened: as the line says, or the blocks that the stream takes.
@@ -269,91 +198,59 @@ fn opened_length(given: u32, h: Head) -> usize
     if given == 0 {
         return (end_of(h) + 507) / 508 * 512;
     }
-    size(given - 1)
+    (given - 1) as usize
 }
 
-// The counts of a line, from `at` on, and where they end.
-#[derive(Clone, Copy)]
-struct Counts {
-    head: Head,
-    end: usize,
-}
-
-fn shape(s: &[u8], at: usize) -> Counts
-    requires { at ≤ length s.now }
-    ensures { result.end ≤ length s.now }
-{
-    let sections = number(s, at);
-    let symbols = number(s, sections.end);
-    let relocations = number(s, symbols.end);
-    let names = number(s, relocations.end);
-    let bytes = number(s, names.end);
-    Counts {
-        head: Head {
-            order: 0,
-            sections: sections.value,
-            symbols: symbols.value,
-            relocations: relocations.value,
-            names: names.value,
-            bytes: bytes.value,
-            reserved: 0,
-        },
-        end: bytes.end,
-    }
+// The counts in front of s, and what is behind them.
+fn shape(s: &[u8]) -> (Head, &[u8]) {
+    let (sections, s) = number(s);
+    let (symbols, s) = number(s);
+    let (relocations, s) = number(s);
+    let (names, s) = number(s);
+    let (bytes, s) = number(s);
+    let head = Head {
+        order: 0,
+        sections,
+        symbols,
+        relocations,
+        names,
+        bytes,
+        reserved: 0,
+    };
+    (head, s)
 }
 
 fn run_line(rt: &impl Print, s: &[u8], d: &mut [u8]) -> io::Result<()> {
-    let name = find(s, 0, b' ');
-    let expected = number(s, name);
-    let counts = shape(s, expected.end);
-    let len = number(s, counts.end);
-    let n = opened_length(len.value, counts.head);
-    let room = least(n + 512, d.len());
-    build(&mut d[0..room], counts.head, s, len.end);
-    rt.write_all(&s[0..name])?;
+    let (name, s) = cut(s, b' ');
+    let (expected, s) = number(s);
+    let (head, s) = shape(s);
+    let (given, changes) = number(s);
+    let n = opened_length(given, head);
+    let room = (n + 512).min(d.len());
+    build(&mut d[..room], head, changes);
+    rt.write_all(name)?;
     rt.write_all(b" expected")?;
-    say_number(rt, expected.value)?;
+    say_number(rt, expected)?;
     rt.write_all(b" got")?;
-    let e = least(n, d.len());
-    say_opened(rt, deposit::open(&d[0..e]))?;
+    let e = n.min(d.len());
+    say_opened(rt, deposit::open(&d[..e]))?;
     rt.write_all(b"\n")
 }
 
 fn run(rt: &impl Print, text: &[u8], d: &mut [u8]) -> io::Result<()> {
-    let mut at: usize = 0;
-    while at < text.len() {
-        let end = find(text, at, b'\n');
-        run_line(rt, &text[at..end], d)?;
-        at = end + 1;
+    let mut rest = text;
+    // A line is as wide as its words, so no range walks the text.
+    while rest.len() > 0 {
+        let (line, behind) = cut(rest, b'\n');
+        run_line(rt, line, d)?;
+        rest = behind;
     }
     Ok(())
-}
-
-// Reads until text is full or the input ends; how many bytes it put at the start of text.
-fn read_full(input: &mut impl Read, text: &mut [u8]) -> io::Result<usize>
-    ensures { IfOk result (λ n. n ≤ length text.new) }
-{
-    let mut done: usize = 0;
-    while done < text.len() {
-        let n = input.read(&mut text[done..])?;
-        if n == 0 {
-            break;
-        }
-        done += n;
-    }
-    Ok(done)
-}
-
-// The room of a deposit. The contract tells the length alone, so no proof of a caller computes on what the array holds.
-fn room() -> [u8; 3145728]
-    ensures { 3145728 ≡ length result }
-{
-    [0; 3145728]
 }
 
 fn main(rt: HostRuntime) -> io::Result<()> {
     let mut text = [0u8; 65536];
     let n = read_full(&mut rt.reader(), &mut text)?;
-    let mut d = room();
+    let mut d = byte_room::<3145728>();
     run(&rt, &text[..n], &mut d)
 }

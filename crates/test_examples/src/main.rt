@@ -1,38 +1,46 @@
 // Document 01, 'From the register's drawer': the examples that are run. A line has the number expected and the number got, 0 where nothing is refused.
 #![tactic(auto)]
 
+ghost use Rattle.std.specs.Prelude.{◌^◌, ◌<◌};
+
 use model::{
-    Endianness, Extent, Head, ParsedLicense, ParsedProgramSection, ParsedVersion, SectionIndex,
-    SectionRecord, SymbolIndex, SymbolRecord,
+    Endianness, Extent, Head, LicenseError, ProgramSection, ProgramSectionError, SectionIndex,
+    SectionRecord, SymbolIndex, SymbolRecord, VersionError,
 };
-use object::Checked;
-use parse_text::ParsedText;
 use records::deposit_view;
 use std::io;
+use stream::{Span, Stream};
 
 fn line(rt: &impl Print, name: &str, expected: u64, got: u64) -> io::Result<()> {
     println!(rt; "{name} expected {expected} got {got}")
 }
 
-fn license_number(p: ParsedLicense) -> u64 {
+// The first n bytes of those that lie together.
+fn first<'a>(bytes: &'a [u8], n: usize) -> Span<'a>
+    requires { n < 2 ^ 63 }
+{
+    Stream { bytes, gap: 0 }.span(0, n)
+}
+
+fn license_number(p: Result<u64, LicenseError>) -> u64 {
     match p {
-        ParsedLicense::License(_) => 0,
-        ParsedLicense::InvalidLicense => 5,
-        ParsedLicense::MissingLicenseNullTerminator => 6,
+        Ok(_) => 0,
+        Err(LicenseError::InvalidLicense) => 5,
+        Err(LicenseError::MissingLicenseNullTerminator) => 6,
     }
 }
 
-fn version_number(p: ParsedVersion) -> u64 {
+fn version_number(p: Result<Option<u32>, VersionError>) -> u64 {
     match p {
-        ParsedVersion::Version(_) => 0,
-        ParsedVersion::InvalidKernelVersion => 7,
+        Ok(_) => 0,
+        Err(VersionError::InvalidKernelVersion) => 7,
     }
 }
 
-fn section_number(p: ParsedProgramSection) -> u64 {
+fn section_number(p: Result<ProgramSection, ProgramSectionError>) -> u64 {
     match p {
-        ParsedProgramSection::Section(_) => 0,
-        ParsedProgramSection::InvalidProgramSection => 8,
+        Ok(_) => 0,
+        Err(ProgramSectionError::InvalidProgramSection) => 8,
     }
 }
 
@@ -41,25 +49,25 @@ fn licenses(rt: &impl Print) -> io::Result<()> {
         rt,
         "licence of one zero byte",
         5,
-        license_number(license::parse_license(b"\0", 0, 0, 1)),
+        license_number(license::parse_license(first(b"\0", 1))),
     )?;
     line(
         rt,
         "licence of one byte",
         5,
-        license_number(license::parse_license(b"a", 0, 0, 1)),
+        license_number(license::parse_license(first(b"a", 1))),
     )?;
     line(
         rt,
         "licence of GPL and zero",
         0,
-        license_number(license::parse_license(b"GPL\0", 0, 0, 4)),
+        license_number(license::parse_license(first(b"GPL\0", 4))),
     )?;
     line(
         rt,
         "licence of GPL",
         6,
-        license_number(license::parse_license(b"GPL\0", 0, 0, 3)),
+        license_number(license::parse_license(first(b"GPL\0", 3))),
     )
 }
 
@@ -69,33 +77,31 @@ fn versions(rt: &impl Print) -> io::Result<()> {
         rt,
         "version of 3 bytes",
         7,
-        version_number(license::parse_version(d, 0, 0, 3, Endianness::Little)),
+        version_number(license::parse_version(first(d, 3), Endianness::Little)),
     )?;
     line(
         rt,
         "version of 4 bytes",
         0,
-        version_number(license::parse_version(d, 0, 0, 4, Endianness::Little)),
+        version_number(license::parse_version(first(d, 4), Endianness::Little)),
     )?;
     line(
         rt,
         "version of 5 bytes",
         7,
-        version_number(license::parse_version(d, 0, 0, 5, Endianness::Big)),
+        version_number(license::parse_version(first(d, 5), Endianness::Big)),
     )
 }
 
 // 16 where a record of n bytes is refused, else ten times its id and its pinning.
-fn record(d: &[u8], n: usize) -> u64 {
-    if n > 100 {
-        return 0;
-    }
-    let def = map_def::parse_map_def(d, 0, 0, n);
+fn record(d: &[u8], n: usize) -> u64
+    requires { n < 2 ^ 63 }
+{
+    let def = map_def::parse_map_def(first(d, n));
     if map_def::invalid_map_definition(n as u64, def) {
         return 16;
     }
-    let w = def.words;
-    10 * stream::wide64(w[5]) + stream::wide64(w[6])
+    10 * u64::from(def.words[5]) + u64::from(def.words[6])
 }
 
 // The sixth word is 3 and the seventh 1; a byte follows. A record of 27 ends before a byte that isn't 0: read with it, the pinning would be refused.
@@ -114,25 +120,25 @@ fn names(rt: &impl Print) -> io::Result<()> {
         rt,
         "bare cgroup",
         8,
-        section_number(program_section::from_str(b"cgroup", 0, 0, 6)),
+        section_number(program_section::from_str(first(b"cgroup", 6))),
     )?;
     line(
         rt,
         "bare sk_skb",
         8,
-        section_number(program_section::from_str(b"sk_skb", 0, 0, 6)),
+        section_number(program_section::from_str(first(b"sk_skb", 6))),
     )?;
     line(
         rt,
         "xdp/",
         8,
-        section_number(program_section::from_str(b"xdp/", 0, 0, 4)),
+        section_number(program_section::from_str(first(b"xdp/", 4))),
     )?;
     line(
         rt,
         "kprobe/a/b",
         0,
-        section_number(program_section::from_str(b"kprobe/a/b", 0, 0, 10)),
+        section_number(program_section::from_str(first(b"kprobe/a/b", 10))),
     )
 }
 
@@ -144,7 +150,7 @@ fn text_section(length: u32) -> SectionRecord {
         mark: 1,
         name: none,
         address: 0,
-        size: stream::wide64(length),
+        size: u64::from(length),
         bytes: Extent { at: 0, length },
         relocations: none,
     }
@@ -167,8 +173,8 @@ fn text_symbol(size: u64) -> SymbolRecord {
 // What refuses a symbol of a size in a text of 16 bytes.
 fn text_number(size: u64) -> u64 {
     match parse_text::invalid_symbol(text_section(16), text_symbol(size), 0) {
-        Checked::Fine => 0,
-        Checked::Refused(r) => stream::wide64(r.number),
+        Ok(()) => 0,
+        Err(r) => u64::from(r.number),
     }
 }
 
@@ -197,8 +203,8 @@ fn empty_text() -> u64 {
         0,
     );
     match parsed {
-        ParsedText::Functions(n) => n as u64,
-        ParsedText::Refused(_) => 100,
+        Ok(n) => n as u64,
+        Err(_) => 100,
     }
 }
 
@@ -210,15 +216,11 @@ fn texts(rt: &impl Print) -> io::Result<()> {
     line(rt, "functions of an empty text", 0, empty_text())
 }
 
-fn wide(x: u8) -> u64 {
-    x as u64
-}
-
 // The immediate of a call, of which rewriting is on.
 fn immediate(regs: u8) -> u64 {
     let mut call = [0x85, regs, 0, 0, 0x71, 0, 0, 0];
     insn::sanitize_code(&mut call, true);
-    wide(call[4])
+    u64::from(call[4])
 }
 
 fn rewriting(rt: &impl Print) -> io::Result<()> {

@@ -1,8 +1,7 @@
 -- What an accepted catalogue holds: licence and version, each of its tables and which entry of one key stays in it, instructions and their rewriting.
-use Rattle.std.specs.Prelude.{◌≡◌, refl, Bool, true, false, List, [], ◌∷◌, ◌++◌, map, ℕ, ℤ, pos, negsuc, take}
+use Rattle.std.specs.Prelude.{◌≡◌, refl, Bool, true, false, List, [], ◌∷◌, ◌++◌, map, ℕ, ℤ, pos, negsuc, take, None, Some}
 use Rattle.model.specs.declared.Endianness.{Endianness}
 use Rattle.model.specs.declared.EbpfSectionKind.{EbpfSectionKind as Kind}
-use Rattle.model.specs.declared.KernelVersion.{KernelVersion}
 use Rattle.model.specs.declared.XdpAttachType.{XdpAttachType}
 use Rattle.model.specs.declared.ProgramSection.{ProgramSection}
 use Rattle.model.specs.declared.BpfInsn.{BpfInsn}
@@ -36,7 +35,7 @@ licence-kept : (card (plain_section 1 "license" (71 ∷ 200 ∷ 0 ∷ []) ∷ pl
 unfolding loaded
 licence-kept = refl
 
-version-big : (catalogue_in (loaded (deposit 1 (plain_section 1 "version" (1 ∷ 2 ∷ 3 ∷ 4 ∷ []) ∷ []) [] []) [] false)).version ≡ KernelVersion.Version 16909060
+version-big : (catalogue_in (loaded (deposit 1 (plain_section 1 "version" (1 ∷ 2 ∷ 3 ∷ 4 ∷ []) ∷ []) [] []) [] false)).version ≡ Some 16909060
 unfolding loaded
 version-big = refl
 
@@ -46,7 +45,7 @@ version-big = refl
 two-names-one-address : card (text 3 "xdp" (says 1 ++ says 2) ∷ []) (func 1 3 "b" 8 8 ∷ func 2 3 "a" 8 0 ∷ []) [] ≡ record {
   order = Endianness.Little;
   licence = 71 ∷ 80 ∷ 76 ∷ [];
-  version = KernelVersion.Any;
+  version = None;
   sections = entry "xdp" 3 16 ∷ [];
   programs = program "a" (ProgramSection.Xdp false XdpAttachType.Interface) 3 8 ∷ program "b" (ProgramSection.Xdp false XdpAttachType.Interface) 3 8 ∷ [];
   functions = function 3 8 8 "a" [] ∷ [];

@@ -1,8 +1,6 @@
 -- Document 01, 'The listing program': its example, from the deposit's bytes over every lent element to the printed text.
-use Rattle.std.specs.Prelude.{◌≡◌, refl, true, List, [], ◌∷◌, ◌++◌, ℕ, replicate}
+use Rattle.std.specs.Prelude.{◌≡◌, refl, true, List, [], ◌∷◌, ◌++◌, ℕ, replicate, None, Ok}
 use Rattle.model.specs.declared.Endianness.{Endianness}
-use Rattle.model.specs.declared.KernelVersion.{KernelVersion}
-use Rattle.model.specs.declared.Answer.{Answer}
 use Rattle.model.specs.Bytes.{ascii}
 use Rattle.worked.specs.Write.{text, plain_section, sized_section, at_address, func, deposit}
 use Rattle.worked.specs.Run.{called, listed, lines, room, row_of_numbers}
@@ -44,7 +42,7 @@ example-bytes = refl
 
 -- every lent element, with one row or byte to spare in each table
 example-lent : called example [] [] true (room 13 8 3 28 4 62) ≡ record {
-  reply = Answer.Accepted (record { order = Endianness.Little; version = KernelVersion.Any; license = 3; sections = 3; programs = 1; functions = 2; maps = 1; relocations = 0; bytes = 61 });
+  reply = Ok (record { order = Endianness.Little; version = None; license = 3; sections = 3; programs = 1; functions = 2; maps = 1; relocations = 0; bytes = 61 });
   lent = record {
     sections = 3 ∷ 4 ∷ 3 ∷ 4 ∷ 7 ∷ 5 ∷ 1 ∷ 16 ∷ 12 ∷ 3 ∷ 2 ∷ 8 ∷ 0 ∷ [];
     programs = 15 ∷ 4 ∷ 6 ∷ 0 ∷ 0 ∷ 2 ∷ 0 ∷ 0 ∷ [];

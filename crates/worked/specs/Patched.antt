@@ -1,6 +1,5 @@
 -- Patch lists: 18 and 20 to 23, each once and naming only the entry, and what an accepted list does to the maps' bytes.
-use Rattle.std.specs.Prelude.{◌≡◌, refl, false, List, [], ◌∷◌, map, ℕ}
-use Rattle.model.specs.declared.Answer.{Answer}
+use Rattle.std.specs.Prelude.{◌≡◌, refl, false, List, [], ◌∷◌, map, ℕ, Err}
 use Rattle.model.specs.Object.{Patch}
 use Rattle.model.specs.Patching.{Verdict}
 use Rattle.model.specs.PatchList.{patches_of}
@@ -30,7 +29,7 @@ entry-lent = refl
 -- ---- 18, 20 to 23
 
 name-past-buffer : (called meter (6 ∷ 4 ∷ 0 ∷ 4 ∷ 1 ∷ []) buffer false (room 99 0 0 200 0 300)).reply
-    ≡ Answer.Refused (record { number = 18; section = record { 0 = 0 }; symbol = record { 0 = 0 }; entry = 1 })
+    ≡ Err (record { number = 18; section = record { 0 = 0 }; symbol = record { 0 = 0 }; entry = 1 })
 unfolding called
 name-past-buffer = refl
 

@@ -1,8 +1,6 @@
 -- '24. A lent table or byte buffer is smaller than the catalogue': each lent table and the bytes, filled, and one element short.
-use Rattle.std.specs.Prelude.{◌≡◌, refl, false, List, [], ◌∷◌, ◌++◌, ℕ, replicate}
+use Rattle.std.specs.Prelude.{◌≡◌, refl, false, List, [], ◌∷◌, ◌++◌, ℕ, replicate, Err, None, Ok}
 use Rattle.model.specs.declared.Endianness.{Endianness}
-use Rattle.model.specs.declared.KernelVersion.{KernelVersion}
-use Rattle.model.specs.declared.Answer.{Answer}
 use Rattle.model.specs.declared.Room.{Room}
 use Rattle.model.specs.Bytes.{ascii}
 use Rattle.worked.specs.Write.{text, plain_section, relocated, func, reloc, deposit}
@@ -17,7 +15,7 @@ small =
     (reloc 0 1 64 ∷ [])
 
 exact : called small [] [] false (room 8 7 1 27 4 28) ≡ record {
-  reply = Answer.Accepted (record { order = Endianness.Little; version = KernelVersion.Any; license = 3; sections = 2; programs = 1; functions = 1; maps = 1; relocations = 1; bytes = 28 });
+  reply = Ok (record { order = Endianness.Little; version = None; license = 3; sections = 2; programs = 1; functions = 1; maps = 1; relocations = 1; bytes = 28 });
   lent = record {
     sections = 3 ∷ 5 ∷ 2 ∷ 2 ∷ 8 ∷ 3 ∷ 1 ∷ 8 ∷ [];
     programs = 11 ∷ 1 ∷ 6 ∷ 0 ∷ 0 ∷ 1 ∷ 0 ∷ [];
@@ -32,7 +30,7 @@ exact = refl
 
 -- the number that is said, 0 where the catalogue is given
 abbrev said : Room → ℕ
-said r = elim (called small [] [] false r).reply as (λ a. ℕ) [ Answer.Accepted h ↦ 0 | Answer.Refused q ↦ q.number ]
+said r = elim (called small [] [] false r).reply as (λ a. ℕ) [ Ok h ↦ 0 | Err q ↦ q.number ]
 
 sections-short : said (room 7 7 1 27 4 28) ≡ 24
 unfolding called
@@ -61,7 +59,7 @@ bytes-short = refl
 -- 'A refused call zeroes what it was lent to write'; '24 names 0 0 0'
 short-zeroes : called small [] [] false (room 9 8 2 1 5 3)
     ≡ record {
-      reply = Answer.Refused (record { number = 24; section = record { 0 = 0 }; symbol = record { 0 = 0 }; entry = 0 });
+      reply = Err (record { number = 24; section = record { 0 = 0 }; symbol = record { 0 = 0 }; entry = 0 });
       lent =
           record {
             sections = replicate 9 0;

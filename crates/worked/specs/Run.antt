@@ -1,11 +1,9 @@
 -- The definitions of model, unfolded as far as rows need them, and short names for what rows say.
-use Rattle.std.specs.Prelude.{Bool, List, [], ◌∷◌, ◌++◌, ℕ, ℤ}
-use Rattle.std.proofs.Math.Option.{none, some}
+use Rattle.std.specs.Prelude.{Bool, List, [], ◌∷◌, ◌++◌, ℕ, ℤ, None, Some}
 use Prim.Native.String.{String}
 use Rattle.model.specs.declared.Endianness.{Endianness}
 use Rattle.model.specs.declared.EbpfSectionKind.{EbpfSectionKind as Kind}
 use Rattle.model.specs.declared.ProgramSection.{ProgramSection}
-use Rattle.model.specs.declared.KernelVersion.{KernelVersion}
 use Rattle.model.specs.declared.BpfInsn.{BpfInsn}
 use Rattle.model.specs.declared.BpfMapDef.{BpfMapDef}
 use Rattle.model.specs.declared.Function.{Function as FunctionRow}
@@ -49,7 +47,7 @@ listed room d = listing_of room d
 
 abbrev pub no_catalogue : Catalogue
 no_catalogue =
-    record { order = Endianness.Little; licence = []; version = KernelVersion.Any; sections = []; programs = []; functions = []; maps = []; relocations = [] }
+    record { order = Endianness.Little; licence = []; version = None; sections = []; programs = []; functions = []; maps = []; relocations = [] }
 
 abbrev pub catalogue_in : Verdict → Catalogue
 catalogue_in (refused r) = no_catalogue
@@ -84,10 +82,10 @@ abbrev pub words : ℕ → ℕ → ℕ → ℕ → ℕ → ℕ → ℕ → BpfMa
 words a b c d e f g = record { words = a ∷ b ∷ c ∷ d ∷ e ∷ f ∷ g ∷ [] }
 
 abbrev pub data_map_of : String → ℕ → Kind → BpfMapDef → List ℕ → Map
-data_map_of n s k w d = record { name = ascii n; section = record { 0 = s }; kind = k; symbol = none; def = w; own = d }
+data_map_of n s k w d = record { name = ascii n; section = record { 0 = s }; kind = k; symbol = None; def = w; own = d }
 
 abbrev pub legacy_map_of : String → ℕ → ℕ → BpfMapDef → Map
-legacy_map_of n s y w = record { name = ascii n; section = record { 0 = s }; kind = Kind.Maps; symbol = some (record { 0 = y }); def = w; own = [] }
+legacy_map_of n s y w = record { name = ascii n; section = record { 0 = s }; kind = Kind.Maps; symbol = Some (record { 0 = y }); def = w; own = [] }
 
 abbrev pub relocation : ℕ → ℕ → ℕ → ℕ → Relocation
 relocation s o z y = record { section = record { 0 = s }; offset = o; size = z; symbol = record { 0 = y } }

@@ -13,14 +13,14 @@ pub loop-k-init : goal.loop-k-init
 unfolding each
 loop-k-init c =
     let a = c.args in
-    (omega arith, refl, sym (add-zero a.at), put-none a.at a.out.now)
+    (refl, sym (add-zero a.at), put-none a.at a.out.now)
 
 pub put_one-o-requires : goal.put_one-o-requires
 put_one-o-requires c =
     let a = c.args in (
       c.requires.0.2,
       c.requires.0.3 c.loop-k.k (omega arith),
-      next-room (part_of a.part a.d.now a.t.now a.v) a.numbers.now a.at c.loop-k.k c.loop-k.o c.loop-k.invariant.2 a.n (length c.loop-k.out) (omega arith) (omega arith) (omega arith),
+      next-room (part_of a.part a.d.now a.t.now a.v) a.numbers.now a.at c.loop-k.k c.loop-k.o c.loop-k.invariant.1 a.n (length c.loop-k.out) (omega arith) (omega arith) (omega arith),
     )
 
 pub loop-k-preserved : goal.loop-k-preserved
@@ -28,15 +28,14 @@ loop-k-preserved c =
     let a = c.args in
     let f = part_of a.part a.d.now a.t.now a.v in
     let p = c.put_one-o in
-    let room = next-room f a.numbers.now a.at c.loop-k.k c.loop-k.o c.loop-k.invariant.2 a.n (length a.out.now) (omega arith) (omega arith) (omega arith) in (
-      omega arith,
-      c.put_one-o.auto.out ∙ c.loop-k.invariant.1,
-      next-end f a.numbers.now a.at c.loop-k.k c.loop-k.o c.loop-k.invariant.2 p.result (omega arith) p.ensures.0,
-      next-laid f a.numbers.now a.at c.loop-k.k c.loop-k.o c.loop-k.invariant.2 p.result (omega arith) p.ensures.0 a.out.now c.loop-k.out _
-          (omega (arith, room)) c.loop-k.invariant.3 p.ensures.1,
+    let room = next-room f a.numbers.now a.at c.loop-k.k c.loop-k.o c.loop-k.invariant.1 a.n (length a.out.now) (omega arith) (omega arith) (omega arith) in (
+      c.put_one-o.auto.out ∙ c.loop-k.invariant.0,
+      next-end f a.numbers.now a.at c.loop-k.k c.loop-k.o c.loop-k.invariant.1 p.result (omega arith) p.ensures.0,
+      next-laid f a.numbers.now a.at c.loop-k.k c.loop-k.o c.loop-k.invariant.1 p.result (omega arith) p.ensures.0 a.out.now c.loop-k.out _
+          (omega (arith, room)) c.loop-k.invariant.2 p.ensures.1,
     )
 
 pub returns : goal.returns
 returns c =
     let e : c.loop-k.k ≡ c.args.n = omega arith in
-    (c.loop-k.invariant.2 ∙ rw e, c.loop-k.invariant.3 ∙ rw e)
+    (c.loop-k.invariant.1 ∙ rw e, c.loop-k.invariant.2 ∙ rw e)

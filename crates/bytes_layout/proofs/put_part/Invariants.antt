@@ -1,6 +1,6 @@
 use mathlib.Core.Path.{◌≡◌}
 use mathlib.Core.List.{◌++◌}
-use Prim.Native.Nat.{◌+◌, ◌-◌, ◌≤◌}
+use Prim.Native.Nat.{◌+◌}
 use lib.ListN.{length, take, drop}
 use Rattle.model.specs.Bytes.{each}
 use Rattle.bytes_layout.specs.Listed.{part_of}
@@ -8,8 +8,5 @@ use Rattle.bytes_layout.proofs.put_part.Given as goal
 
 abbrev pub invariant-loop-k : goal.invariant-loop-k
 invariant-loop-k l =
-    (l.k ≤ l.n) × (length l.out ≡ length l.initial.out) × (l.o ≡ l.at + length (each (part_of l.part l.d l.t l.v) (take l.k l.numbers)))
+    (length l.out ≡ length l.initial.out) × (l.o ≡ l.at + length (each (part_of l.part l.d l.t l.v) (take l.k l.numbers)))
     × (l.out ≡ take l.at l.initial.out ++ (each (part_of l.part l.d l.t l.v) (take l.k l.numbers) ++ drop l.o l.initial.out))
-
-abbrev pub decreases-loop-k : goal.decreases-loop-k
-decreases-loop-k l = l.n - l.k

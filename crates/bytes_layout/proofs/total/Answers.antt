@@ -8,7 +8,7 @@ use Rattle.bytes_layout.proofs.total.Goals as goal
 
 pub loop-k-init : goal.loop-k-init
 unfolding each
-loop-k-init c = (omega arith, omega arith, refl)
+loop-k-init c = (omega arith, refl)
 
 pub part_length-sum-requires : goal.part_length-sum-requires
 part_length-sum-requires c =
@@ -22,9 +22,9 @@ pub loop-k-preserved : goal.loop-k-preserved
 loop-k-preserved c =
     let a = c.args in
     let g = each-longer (part_of a.part a.d.now a.t.now a.v) a.numbers.now 0 c.loop-k.k (omega arith) in
-    (omega arith, omega (arith, c.part_length-sum.ensures), omega (arith, g, c.part_length-sum.ensures))
+    (omega (arith, c.part_length-sum.ensures), omega (arith, g, c.part_length-sum.ensures))
 
 pub returns : goal.returns
 returns c =
     let e : c.loop-k.k ≡ c.args.n = omega arith in
-    (c.loop-k.invariant.2 ∙ rw e, omega arith)
+    (c.loop-k.invariant.1 ∙ rw e, omega arith)

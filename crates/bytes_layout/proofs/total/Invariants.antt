@@ -1,12 +1,9 @@
 use mathlib.Core.Path.{◌≡◌}
-use Prim.Native.Nat.{◌-◌, ◌*◌, ◌≤◌}
+use Prim.Native.Nat.{◌*◌, ◌≤◌}
 use lib.ListN.{length, take}
 use Rattle.model.specs.Bytes.{each}
 use Rattle.bytes_layout.specs.Listed.{part_of}
 use Rattle.bytes_layout.proofs.total.Given as goal
 
 abbrev pub invariant-loop-k : goal.invariant-loop-k
-invariant-loop-k l = (l.k ≤ l.n) × (l.sum ≤ l.k * 16777216) × (l.sum ≡ length (each (part_of l.part l.d l.t l.v) (take l.k l.numbers)))
-
-abbrev pub decreases-loop-k : goal.decreases-loop-k
-decreases-loop-k l = l.n - l.k
+invariant-loop-k l = (l.sum ≤ l.k * 16777216) × (l.sum ≡ length (each (part_of l.part l.d l.t l.v) (take l.k l.numbers)))

@@ -24,4 +24,4 @@ returns-in-Bytes c =
     let a = c.args in
     let w = c.own_of in
     let e = sym c.in-Bytes.is ∙ w.ensures in
-    (c.size.ensures.0 ∙ sym (data-length a.d.now a.t.now a.v a.n _ e), λ r. omega arith)
+    (sym (data-length a.d.now a.t.now a.v a.n _ e), λ r. omega arith)

@@ -18,8 +18,8 @@ own-zeros c =
 pub overflow_add-end : goal.overflow_add-end
 overflow_add-end c = omega (arith, own-zeros (goal.at.overflow_add-end c).In-Zeros)
 
-pub slice_bounds-zero8-end : goal.slice_bounds-zero8-end
-slice_bounds-zero8-end c = omega (arith, own-zeros (goal.at.slice_bounds-zero8-end c).In-Zeros)
+pub slice_bounds-fill-end : goal.slice_bounds-fill-end
+slice_bounds-fill-end c = omega (arith, own-zeros (goal.at.slice_bounds-fill-end c).In-Zeros)
 
 -- the data in hand
 own-data : (c : In-Bytes) →
@@ -38,7 +38,7 @@ pub copy_stream-requires : goal.copy_stream-requires
 copy_stream-requires c =
     let a = c.args in
     let x = c.in-Bytes.e in
-    let e : c.data_place.result + c.size-len.result ≡ a.v.at.bytes + x.at + x.length = omega arith in (
+    let e : c.data_place.result + c.in-Bytes.e.length ≡ a.v.at.bytes + x.at + x.length = omega arith in (
       omega arith,
       omega arith,
       rw (c.gap.ensures.0, e) (data-fits a.d.now a.t.now a.v a.n c.requires.0 x (own-data (goal.at.copy_stream-requires c).In-Bytes)).placed,
@@ -60,7 +60,7 @@ returns-in-Zeros c =
     let len = c.in-Zeros.len in
     let z = own-zeros (goal.at.returns-in-Zeros c).In-Zeros in (
       omega (arith, z),
-      zeros-laid a.at len a.out.now c.zero8.new.t (omega (arith, z)) c.zero8.ensures
+      zeros-laid a.at len a.out.now c.fill.new.self (omega (arith, z)) (c.fill.ensures.after (λ y e. e))
           ∙ rw (zeros-bytes a.d.now a.t.now a.v a.n len (sym c.in-Zeros.is ∙ c.own_of.ensures)),
     )
 
@@ -72,5 +72,5 @@ returns-in-Bytes c =
     let p = c.data_place in (
       omega (arith, own-data-length (goal.at.returns-in-Bytes c).In-Bytes),
       c.copy_stream.ensures
-          ∙ rw (data-bytes a.d.now a.t.now a.v a.n x (own-data (goal.at.returns-in-Bytes c).In-Bytes), g.ensures.0, p.ensures.0, c.size-len.ensures.0),
+          ∙ rw (data-bytes a.d.now a.t.now a.v a.n x (own-data (goal.at.returns-in-Bytes c).In-Bytes), g.ensures.0, p.ensures.0),
     )

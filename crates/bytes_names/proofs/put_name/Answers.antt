@@ -9,7 +9,7 @@ use Rattle.bytes_names.proofs.put_name.Goals.{After-name_at}
 -- the name in hand
 long : (c : After-name_at) →
     let a = c.args in
-    length (piece_of a.which a.d.now a.t.now a.v a.j) ≡ c.size-len.result
+    length (piece_of a.which a.d.now a.t.now a.v a.j) ≡ c.extent-e.result.length
 long c =
     let a = c.args in
     let x = c.extent-e in
@@ -23,7 +23,7 @@ copy_stream-requires c =
     let p = c.name_at in (
       omega arith,
       omega arith,
-      piece-placed a.which a.d.now a.t.now a.v a.j x.result x.ensures g.result p.result c.size-len.result g.ensures.0 p.ensures.0
+      piece-placed a.which a.d.now a.t.now a.v a.j x.result x.ensures g.result p.result c.extent-e.result.length g.ensures.0 p.ensures.0
           (omega arith) c.requires.0,
       omega (arith, long (goal.at.copy_stream-requires c).After-name_at, c.requires.1),
     )
@@ -38,5 +38,5 @@ returns c =
     let x = c.extent-e in
     let g = c.gap in
     let p = c.name_at in
-    let e = piece_bytes a.which a.d.now a.t.now a.v a.j x.result x.ensures g.result p.result c.size-len.result g.ensures.0 p.ensures.0 (omega arith) in
+    let e = piece_bytes a.which a.d.now a.t.now a.v a.j x.result x.ensures g.result p.result c.extent-e.result.length g.ensures.0 p.ensures.0 (omega arith) in
     (omega (arith, long (goal.at.returns c).After-name_at), c.copy_stream.ensures ∙ rw e)

@@ -9,5 +9,6 @@ pub returns : goal.returns
 returns c =
     let a = c.args in
     let e : a.n * 512 + 508 - a.n * 512 ≡ 508 = omega arith in
-    rw (c.four.ensures, c.weigh.ensures.0, e)
+    let f : a.n * 512 + 508 + 4 - (a.n * 512 + 508) ≡ 4 = omega arith in
+    rw (c.number_of.ensures, c.weigh.ensures.0, e, f)
     (sym (check-place a.d.now (a.n + 1) (a.n * 512) (omega arith)))

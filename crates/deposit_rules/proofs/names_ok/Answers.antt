@@ -11,10 +11,10 @@ pub name_bytes-requires : goal.name_bytes-requires
 unfolding end_of
 name_bytes-requires c =
     let a = c.args in
-    let n : ℕ = c.names_at.result + c.size.result in
+    let n : ℕ = c.names_at.result + a.h.names in
     let l : n ≤ end_of a.h = omega arith in
-    (omega arith, omega arith, le_trans (place_mono 4 n (end_of a.h) l) c.requires)
+    rw (c.span.ensures.stream, c.deposit_stream.ensures.bytes, c.deposit_stream.ensures.gap, c.span.ensures.at, c.span.ensures.len) (omega arith, le_trans (place_mono 4 n (end_of a.h) l) c.requires)
 
 pub returns : goal.returns
 unfolding names_ok
-returns c = rw (c.names_at.ensures.0, c.size.ensures.0) at c.name_bytes.ensures
+returns c = rw (c.span.ensures.stream, c.deposit_stream.ensures.bytes, c.deposit_stream.ensures.gap, c.span.ensures.at, c.span.ensures.len, c.names_at.ensures.0) at c.name_bytes.ensures

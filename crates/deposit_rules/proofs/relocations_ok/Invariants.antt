@@ -1,5 +1,4 @@
 use mathlib.Core.Path.{◌≡◌}
-use Prim.Native.Nat.{◌-◌}
 use lib.ListN.{drop}
 use Rattle.lists.specs.Tab.{tab}
 use Rattle.model.specs.Deposit.{all, relocation_ok}
@@ -8,8 +7,4 @@ use Rattle.deposit_rules.specs.Rules.{relocations_ok}
 use Rattle.deposit_rules.proofs.relocations_ok.Given as goal
 
 abbrev pub invariant-loop-i : goal.invariant-loop-i
-invariant-loop-i l =
-    (l.c.end ≡ l.h.relocations) × (relocations_ok l.d l.h ≡ all relocation_ok (drop l.c.at (tab (deposit_relocation l.d l.h) l.h.relocations)))
-
-abbrev pub decreases-loop-i : goal.decreases-loop-i
-decreases-loop-i l = l.c.end - l.c.at
+invariant-loop-i l = relocations_ok l.d l.h ≡ all relocation_ok (drop l.i (tab (deposit_relocation l.d l.h) l.h.relocations))

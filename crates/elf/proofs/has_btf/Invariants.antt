@@ -1,5 +1,4 @@
-use mathlib.Core.Path.{◌≡◌}
-use Prim.Native.Nat.{◌-◌, ◌≤◌}
+use Rattle.std.proofs.Common.{◌≡◌, ◌-◌, ◌≤◌}
 use Rattle.model.specs.Deposit.{has_btf}
 use Rattle.object.specs.View.{object_in}
 use Rattle.elf.specs.Btf.{btf_from}

@@ -1,24 +1,37 @@
 -- `elf::index` meets its contract: its parts, one after the other.
-use Rattle.elf.specs.Told.{sections-broken, symbols-broken, rest-length, index-told}
+use Rattle.std.proofs.lemmas.Result.{err_from_is_err_and}
+use Rattle.elf.specs.Asked.{sections-ask, symbols-ask}
+use Rattle.elf.specs.Told.{sections-broken, symbols-broken, index-told}
 use Rattle.elf.proofs.index.Goals as goal
 
-pub returns-then-not-index_section_names : goal.returns-then-not-index_section_names
-returns-then-not-index_section_names c = sections-broken c.args.d.now _ _ _ c.index_section_names.ensures c.if-not-index_section_names.true
+pub index_names-requires : goal.index_names-requires
+index_names-requires c =
+    let a = c.args in
+    sections-ask a.d.now a.l c.requires.0 _ c.split_at_mut-section_names.ensures.front_len
 
-pub returns-then-not-index_symbol_names : goal.returns-then-not-index_symbol_names
-returns-then-not-index_symbol_names c =
-    symbols-broken c.args.d.now _ _ _ c.index_section_names.ensures _ _ c.if-not-index_section_names.false c.index_symbol_names.ensures c.if-not-index_symbol_names.true
+pub returns-in_err-index_names : goal.returns-in_err-index_names
+returns-in_err-index_names c =
+    let a = c.args in
+    let p = err_from_is_err_and c.from_residual.result c.from_residual.ensures.1 in
+    let e = c.in_err-index_names.ensures in
+    rw (p.1, p.2) (e.0, sections-broken a.d.now a.l c.requires.0 _ c.split_at_mut-section_names.ensures.front_len e.1)
 
-pub index_relocations-requires : goal.index_relocations-requires
-index_relocations-requires c =
-    let a = c.args in (
-      c.requires.0,
-      rest-length a.d.now a.l c.requires.0 _ _ a.t.now _ _ _ _ c.size-s.ensures.0 c.size.ensures.0
-          c.index_section_names.ensures c.if-not-index_section_names.false c.index_symbol_names.ensures c.if-not-index_symbol_names.false _ c.size-2.ensures.0 c.requires.1,
-    )
+pub index_names-requires-2 : goal.index_names-requires-2
+index_names-requires-2 c =
+    let a = c.args in
+    symbols-ask a.d.now a.l c.requires.0 _ c.split_at_mut-symbol_names.ensures.front_len
+
+pub returns-in_err-index_names-2 : goal.returns-in_err-index_names-2
+returns-in_err-index_names-2 c =
+    let a = c.args in
+    let r = c.from_residual-in_err-index_names-2 in
+    let p = err_from_is_err_and r.result r.ensures.1 in
+    let e = c.in_err-index_names-2.ensures in
+    rw (p.1, p.2)
+    (e.0, symbols-broken a.d.now a.l c.requires.0 _ c.split_at_mut-section_names.ensures.front_len _ c.split_at_mut-symbol_names.ensures.front_len e.1)
 
 pub returns : goal.returns
 returns c =
     let a = c.args in
-    index-told a.d.now a.l c.requires.0 _ _ a.t.now _ _ _ _ c.size-s.ensures.0 c.size.ensures.0
-    c.index_section_names.ensures c.if-not-index_section_names.false c.index_symbol_names.ensures c.if-not-index_symbol_names.false _ c.size-2.result c.index_relocations.ensures
+    index-told a.d.now a.l c.requires.0 _ c.split_at_mut-section_names.ensures.front_len _ c.split_at_mut-symbol_names.ensures.front_len _ _ _ _
+    c.in_ok-index_names.ensures c.in_ok-index_names-2.ensures c.index_relocations.ensures

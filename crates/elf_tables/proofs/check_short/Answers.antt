@@ -1,5 +1,5 @@
 -- `elf_tables::check_short` meets its contract.
-use mathlib.Core.Path.{◌≡◌, sym, ap, ◌∙◌}
+use mathlib.Core.Path.{◌≡◌, ap, ◌∙◌}
 use Rattle.model.specs.Elf.{file_order}
 use Rattle.elf_ident.specs.FirstBytes.{first_bytes_ok}
 use Rattle.elf_tables.specs.Answered.{checked-short}
@@ -11,10 +11,10 @@ first-bytes : (c : After-first_bytes_ok) →
     c.first_bytes_ok.result ≡ first_bytes_ok d (file_order d)
 first-bytes c = c.first_bytes_ok.ensures ∙ ap (first_bytes_ok c.args.d.now) c.file_order.ensures
 
-pub returns-then-not-first_bytes_ok : goal.returns-then-not-first_bytes_ok
-returns-then-not-first_bytes_ok c =
-    c.refused.ensures ∙ sym (checked-short c.args.d.now c.requires ∙ rw (← first-bytes (goal.at.returns-then-not-first_bytes_ok c).After-first_bytes_ok, c.if-not-first_bytes_ok.true))
+pub returns-then-first_bytes_ok : goal.returns-then-first_bytes_ok
+returns-then-first_bytes_ok c =
+    checked-short c.args.d.now c.requires ∙ rw (← first-bytes (goal.at.returns-then-first_bytes_ok c).After-first_bytes_ok, c.if-first_bytes_ok.true, c.refusal.ensures)
 
-pub returns : goal.returns
-returns c =
-    c.refused-2.ensures ∙ sym (checked-short c.args.d.now c.requires ∙ rw (← first-bytes (goal.at.returns c).After-first_bytes_ok, c.if-not-first_bytes_ok.false))
+pub returns-else-first_bytes_ok : goal.returns-else-first_bytes_ok
+returns-else-first_bytes_ok c =
+    checked-short c.args.d.now c.requires ∙ rw (← first-bytes (goal.at.returns-else-first_bytes_ok c).After-first_bytes_ok, c.if-first_bytes_ok.false, c.refusal-else-first_bytes_ok.ensures)

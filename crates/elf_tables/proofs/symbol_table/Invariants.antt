@@ -1,12 +1,9 @@
 use mathlib.Core.Path.{◌≡◌}
 use mathlib.Core.Bool.{false}
-use Prim.Native.Nat.{ℕ, ◌-◌, ◌<◌, ◌≤◌}
+use Prim.Native.Nat.{ℕ, ◌<◌}
 use Rattle.model.specs.Elf.{is_type}
 use Rattle.elf_header.specs.Headers.{header_in}
 use Rattle.elf_tables.proofs.symbol_table.Given as goal
 
 abbrev pub invariant-loop-i : goal.invariant-loop-i
-invariant-loop-i l = (l.i ≤ l.h.sections) × ((k : ℕ) → k < l.i → is_type 2 (header_in l.d l.h k) ≡ false)
-
-abbrev pub decreases-loop-i : goal.decreases-loop-i
-decreases-loop-i l = l.h.sections - l.i
+invariant-loop-i l = (k : ℕ) → k < l.i → is_type 2 (header_in l.sections.bytes.now l.sections.headers k) ≡ false

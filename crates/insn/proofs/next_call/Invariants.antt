@@ -3,12 +3,12 @@ use Rattle.std.proofs.Common.{◌≡◌, ◌-◌, ◌/◌, length}
 use Rattle.insn.specs.Reading.{instructions_from, next_call}
 use Rattle.insn.proofs.next_call.Given as goal
 
-abbrev pub invariant-loop-reader : goal.invariant-loop-reader
-invariant-loop-reader l =
+abbrev pub invariant-loop-i : goal.invariant-loop-i
+invariant-loop-i l =
     record {
       over : l.reader.bytes.now ≡ l.code;
       same : next_call (instructions_from l.code l.reader.slot) l.reader.slot ≡ next_call (instructions_from l.code l.slot) l.slot;
     }
 
-abbrev pub decreases-loop-reader : goal.decreases-loop-reader
-decreases-loop-reader l = length l.code / 8 - l.reader.slot
+abbrev pub decreases-loop-i : goal.decreases-loop-i
+decreases-loop-i l = length l.code / 8 - l.reader.slot

@@ -1,13 +1,9 @@
-use mathlib.Core.Path.{◌≡◌}
-use mathlib.Core.List.{◌++◌}
-use Prim.Native.Nat.{◌≤◌, ◌-◌, ◌*◌}
-use lib.ListN.{length, drop}
+use Rattle.std.proofs.Common.{◌≡◌, ◌≤◌, ◌-◌, ◌*◌, ◌++◌, drop}
 use Rattle.insn.specs.Sanitized.{slots}
 use Rattle.insn.proofs.sanitize_code.Given as goal
 
 abbrev pub invariant-loop-slot : goal.invariant-loop-slot
-invariant-loop-slot l =
-    (l.slot ≤ l.n) × (length l.code ≡ length l.initial.code) × (l.code ≡ slots l.slot l.initial.code ++ drop (l.slot * 8) l.initial.code)
+invariant-loop-slot l = (l.slot ≤ l.n) × (l.code ≡ slots l.slot l.initial.code ++ drop (l.slot * 8) l.initial.code)
 
 abbrev pub decreases-loop-slot : goal.decreases-loop-slot
 decreases-loop-slot l = l.n - l.slot

@@ -1,11 +1,13 @@
 -- `listing_elf::list` meets its contract: what the load left is read back as its text, and the buffer has room for it.
+use Rattle.model.specs.declared.Summary.{Summary}
+use Rattle.model.specs.declared.Refusal.{Refusal}
+use Rattle.std.specs.Prelude.{Result}
 use mathlib.Core.Path.{◌≡◌, sym, ap, ◌∙◌}
 use mathlib.Core.Bool.{false}
 use mathlib.Core.List.{List, []}
 use Prim.Native.Nat.{ℕ, ◌+◌, ◌*◌, ◌≤◌}
 use native.Mathlib.Omega.{arith}
 use lib.ListN.{length}
-use Rattle.model.specs.declared.Answer.{Answer}
 use Rattle.model.specs.Bytes.{AllBytes}
 use Rattle.model.specs.FunctionNumbers.{flat_room}
 use Rattle.model.specs.Lent.{Outcome}
@@ -34,7 +36,7 @@ put_answer-requires c =
     let d : List ℕ = a.d.now in
     let room : Room = flat_room a.sections.now a.programs.now a.functions.now a.maps.now a.relocations.now a.bytes.now in
     let o : Outcome = load_elf_of d [] [] false room in
-    let r : Answer = c.load_flat_elf-answer.result in
+    let r : (Result Summary Refusal) = c.load_flat_elf-answer.result in
     let n : ℕ = length a.functions.now in
     (omega arith, answer-fits (Input.file d) [] [] false room _ _ _ _ (flat-tables n o r _ _ _ _ _ _ c.load_flat_elf-answer.ensures) r (flat-answer n o r _ _ _ _ _ _ c.load_flat_elf-answer.ensures))
 
@@ -43,7 +45,7 @@ returns c =
     let a = c.args in
     let d : List ℕ = a.d.now in
     let room : Room = flat_room a.sections.now a.programs.now a.functions.now a.maps.now a.relocations.now a.bytes.now in
-    let r : Answer = c.load_flat_elf-answer.result in
+    let r : (Result Summary Refusal) = c.load_flat_elf-answer.result in
     let o : Outcome = load_elf_of d [] [] false room in
     let n : ℕ = length a.functions.now in
     let e : r ≡ o.reply = flat-answer n o r _ _ _ _ _ _ c.load_flat_elf-answer.ensures in

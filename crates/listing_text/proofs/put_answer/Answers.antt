@@ -3,14 +3,14 @@ use Rattle.listing_text.proofs.put_answer.Goals as goal
 
 pub put_catalogue-requires : goal.put_catalogue-requires
 put_catalogue-requires c =
-    (c.requires.0, rw c.in-Accepted.is at c.requires.1)
+    (c.requires.0, rw c.in-Ok.is at c.requires.1)
 
-pub returns-in-Accepted : goal.returns-in-Accepted
-returns-in-Accepted c =
-    let e = c.in-Accepted.is in
+pub returns-in-Ok : goal.returns-in-Ok
+returns-in-Ok c =
+    let e = c.in-Ok.is in
     rw e c.put_catalogue.ensures
 
-pub returns-in-Refused : goal.returns-in-Refused
-returns-in-Refused c =
-    let e = c.in-Refused.is in
+pub returns-in-Err : goal.returns-in-Err
+returns-in-Err c =
+    let e = c.in-Err.is in
     rw e c.put_refusal.ensures

@@ -6,4 +6,4 @@ use Rattle.listing_text.proofs.put_catalogue.Goals as goal
 pub returns : goal.returns
 returns c =
     let a = c.args in
-    same_text (flat-text a.h a.programs.now a.functions.now a.maps.now a.bytes.now) (then c.requires.0 (then c.requires.0 (then c.requires.0 c.put_top-o.ensures c.put_programs-o.ensures) c.put_functions-o.ensures) c.put_maps.ensures)
+    same_text (flat-text a.h a.programs.now a.functions.now a.maps.now a.bytes.now) (then c.requires.0 (then c.requires.0 (then c.requires.0 c.put_top-o.ensures c.put_rows-o.ensures) c.put_rows-o-2.ensures) c.put_rows.ensures)

@@ -1,11 +1,11 @@
 -- `load_decision::decide_room` meets its contract.
+use Rattle.std.specs.Prelude.{Err, Ok}
 use mathlib.Core.Path.{◌≡◌, refl, sym, ap, ◌∙◌}
 use lib.ListN.{length}
 use Rattle.model.specs.Lent.{image_of, fits_in}
 use Rattle.accepted_numbers.specs.Numbers.{targeted}
 use Rattle.bytes_layout.specs.Parts.{catalogue}
 use Rattle.load_image.specs.Tables.{relocations-are, count-sections, count-programs, count-functions, count-maps}
-use Rattle.load_decision.specs.declared.Decision.{Decision}
 use Rattle.load_decision.specs.declared.Plan.{Plan}
 use Rattle.load_decision.specs.Decided.{Fitted, Planned, relocated}
 use Rattle.load_decision.specs.Room.{fits-by}
@@ -39,8 +39,8 @@ pub returns-then-not-fits : goal.returns-then-not-fits
 returns-then-not-fits c =
     let a = c.args in
     let k = c.put_relocation_rows-count in
-    let g : Fitted a.d.now a.t.now a.v a.room a.n (Decision.Refused c.too_small.result) a.sections.now a.programs.now a.functions.now a.maps.now = (c.too_small.ensures, fits-here (goal.at.returns-then-not-fits c).After-fits ∙ c.if-not-fits.true) in
-    (g, relocated a.d.now a.t.now a.v a.room a.n (Decision.Refused c.too_small.result) a.sections.now a.programs.now a.functions.now a.maps.now a.relocations.now _ k.result c.requires.0 g c.requires.5 k.ensures.0 k.ensures.2)
+    let g : Fitted a.d.now a.t.now a.v a.room a.n (Err c.too_small.result) a.sections.now a.programs.now a.functions.now a.maps.now = (c.too_small.ensures, fits-here (goal.at.returns-then-not-fits c).After-fits ∙ c.if-not-fits.true) in
+    (g, relocated a.d.now a.t.now a.v a.room a.n (Err c.too_small.result) a.sections.now a.programs.now a.functions.now a.maps.now a.relocations.now _ k.result c.requires.0 g c.requires.5 k.ensures.0 k.ensures.2)
 
 pub returns : goal.returns
 returns c =
@@ -56,4 +56,4 @@ returns c =
       at = c.layout-places.ensures;
     }
     in
-    ((g, refl), relocated a.d.now a.t.now a.v a.room a.n (Decision.Accepted plan) _ _ _ _ a.relocations.now _ k.result c.requires.0 (g, refl) c.requires.5 k.ensures.0 k.ensures.2)
+    ((g, refl), relocated a.d.now a.t.now a.v a.room a.n (Ok plan) _ _ _ _ a.relocations.now _ k.result c.requires.0 (g, refl) c.requires.5 k.ensures.0 k.ensures.2)

@@ -15,7 +15,7 @@ use Rattle.load_finish.proofs.rewrite_functions.Goals.{After-code_length}
 
 pub loop-k-init : goal.loop-k-init
 unfolding each
-loop-k-init c = let a = c.args in (omega arith, omega arith, begin-rewritten a.out.now a.start)
+loop-k-init c = let a = c.args in (omega arith, begin-rewritten a.out.now a.start)
 
 pub code_length-requires : goal.code_length-requires
 code_length-requires c =
@@ -27,7 +27,7 @@ room : (c : After-code_length)
 room c =
     let a = c.args in
     let f = code_at a.d.now a.t.now a.v in
-    omega (arith, next-room f a.functions.now a.start c.loop-k.k c.loop-k.at c.loop-k.invariant.1 a.n (length a.out.now) (omega arith) c.requires.1 c.requires.3, c.code_length.ensures.0)
+    omega (arith, next-room f a.functions.now a.start c.loop-k.k c.loop-k.at c.loop-k.invariant.0 a.n (length a.out.now) (omega arith) c.requires.1 c.requires.3, c.code_length.ensures.0)
 
 pub overflow_add-end : goal.overflow_add-end
 overflow_add-end c = omega (arith, room (goal.at.overflow_add-end c).After-code_length)
@@ -35,18 +35,17 @@ overflow_add-end c = omega (arith, room (goal.at.overflow_add-end c).After-code_
 pub slice_bounds-sanitize_code-end : goal.slice_bounds-sanitize_code-end
 slice_bounds-sanitize_code-end c =
     let a = c.args in
-    let e = passed-eights a.d.now a.t.now a.v (take c.loop-k.k a.functions.now) a.start c.loop-k.at c.loop-k.invariant.1 in
-    omega (arith, room (goal.at.slice_bounds-sanitize_code-end c).After-code_length, rewritten-long a.out.now a.start c.loop-k.at c.code_length.result (omega arith) (room (goal.at.slice_bounds-sanitize_code-end c).After-code_length) e c.loop-k.out c.loop-k.invariant.2)
+    let e = passed-eights a.d.now a.t.now a.v (take c.loop-k.k a.functions.now) a.start c.loop-k.at c.loop-k.invariant.0 in
+    omega (arith, room (goal.at.slice_bounds-sanitize_code-end c).After-code_length, rewritten-long a.out.now a.start c.loop-k.at c.code_length.result (omega arith) (room (goal.at.slice_bounds-sanitize_code-end c).After-code_length) e c.loop-k.out c.loop-k.invariant.1)
 
 pub loop-k-preserved : goal.loop-k-preserved
 loop-k-preserved c =
     let a = c.args in
     let f = code_at a.d.now a.t.now a.v in
     let r = c.code_length in
-    let e = passed-eights a.d.now a.t.now a.v (take c.loop-k.k a.functions.now) a.start c.loop-k.at c.loop-k.invariant.1 in (
-      omega arith,
-      next-end f a.functions.now a.start c.loop-k.k c.loop-k.at c.loop-k.invariant.1 (c.loop-k.at + r.result) (omega arith) (ap (λ (n : ℕ). c.loop-k.at + n) r.ensures.0),
-      next-rewritten a.out.now a.start c.loop-k.at r.result (omega arith) (room (goal.at.loop-k-preserved c).After-code_length) e c.loop-k.out c.loop-k.invariant.2 (c.loop-k.at + r.result - c.loop-k.at)
+    let e = passed-eights a.d.now a.t.now a.v (take c.loop-k.k a.functions.now) a.start c.loop-k.at c.loop-k.invariant.0 in (
+      next-end f a.functions.now a.start c.loop-k.k c.loop-k.at c.loop-k.invariant.0 (c.loop-k.at + r.result) (omega arith) (ap (λ (n : ℕ). c.loop-k.at + n) r.ensures.0),
+      next-rewritten a.out.now a.start c.loop-k.at r.result (omega arith) (room (goal.at.loop-k-preserved c).After-code_length) e c.loop-k.out c.loop-k.invariant.1 (c.loop-k.at + r.result - c.loop-k.at)
           c.sanitize_code.new.code (omega arith) c.sanitize_code.ensures,
     )
 
@@ -54,15 +53,15 @@ pub shape_of-out : goal.shape_of-out
 shape_of-out c =
     let a = c.args in
     let n : c.loop-k.k ≡ a.n = omega arith in
-    let end : c.loop-k.at ≡ a.start + length (each (code_at a.d.now a.t.now a.v) (take a.n a.functions.now)) = rw n at c.loop-k.invariant.1 in
-    let e = passed-eights a.d.now a.t.now a.v (take c.loop-k.k a.functions.now) a.start c.loop-k.at c.loop-k.invariant.1 in
-    rewritten-long a.out.now a.start c.loop-k.at 0 (omega arith) (omega (arith, c.requires.3, end)) e c.loop-k.out c.loop-k.invariant.2
+    let end : c.loop-k.at ≡ a.start + length (each (code_at a.d.now a.t.now a.v) (take a.n a.functions.now)) = rw n at c.loop-k.invariant.0 in
+    let e = passed-eights a.d.now a.t.now a.v (take c.loop-k.k a.functions.now) a.start c.loop-k.at c.loop-k.invariant.0 in
+    rewritten-long a.out.now a.start c.loop-k.at 0 (omega arith) (omega (arith, c.requires.3, end)) e c.loop-k.out c.loop-k.invariant.1
 
 pub returns : goal.returns
 returns c =
     let a = c.args in
     let n : c.loop-k.k ≡ a.n = omega arith in
     let t = a.out.now in
-    c.loop-k.invariant.2
+    c.loop-k.invariant.1
     ∙ ap (λ (p : ℕ). take a.start t ++ (sanitized true (part t a.start (p - a.start)) ++ drop p t))
-    (c.loop-k.invariant.1 ∙ ap (λ (m : ℕ). a.start + length (each (code_at a.d.now a.t.now a.v) (take m a.functions.now))) n)
+    (c.loop-k.invariant.0 ∙ ap (λ (m : ℕ). a.start + length (each (code_at a.d.now a.t.now a.v) (take m a.functions.now))) n)

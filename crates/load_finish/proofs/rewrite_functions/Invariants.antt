@@ -1,7 +1,7 @@
 use mathlib.Core.Path.{◌≡◌}
 use mathlib.Core.Bool.{true}
 use mathlib.Core.List.{◌++◌}
-use Prim.Native.Nat.{◌+◌, ◌-◌, ◌≤◌}
+use Prim.Native.Nat.{◌+◌, ◌-◌}
 use lib.ListN.{length, take, drop}
 use Rattle.model.specs.Bytes.{each, part}
 use Rattle.insn.specs.Sanitized.{sanitized}
@@ -10,7 +10,4 @@ use Rattle.load_finish.proofs.rewrite_functions.Given as goal
 
 abbrev pub invariant-loop-k : goal.invariant-loop-k
 invariant-loop-k l =
-    (l.k ≤ l.n) × (l.at ≡ l.start + length (each (code_at l.d l.t l.v) (take l.k l.functions))) × (l.out ≡ take l.start l.initial.out ++ (sanitized true (part l.initial.out l.start (l.at - l.start)) ++ drop l.at l.initial.out))
-
-abbrev pub decreases-loop-k : goal.decreases-loop-k
-decreases-loop-k l = l.n - l.k
+    (l.at ≡ l.start + length (each (code_at l.d l.t l.v) (take l.k l.functions))) × (l.out ≡ take l.start l.initial.out ++ (sanitized true (part l.initial.out l.start (l.at - l.start)) ++ drop l.at l.initial.out))

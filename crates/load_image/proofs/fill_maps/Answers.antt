@@ -5,7 +5,7 @@ use Prim.Native.Nat.{ℕ, ◌*◌}
 use native.Mathlib.Omega.{arith}
 use Rattle.bytes_layout.specs.Held.{parts-inside}
 use Rattle.bytes_layout.specs.Parts.{catalogue}
-use Rattle.load_image.specs.Filled.{cleared_from}
+use Rattle.load_image.specs.Filled.{cleared_from, tail-cleared}
 use Rattle.load_image.specs.Tables.{all-maps, maps-filled}
 use Rattle.load_image.proofs.fill_maps.Goals as goal
 
@@ -19,6 +19,7 @@ put_map_rows-requires c =
 pub returns : goal.returns
 returns c =
     let a = c.args in
-    c.clear_from.ensures
+    let stored = c.put_map_rows.new.out in
+    tail-cleared (a.n * 27) stored c.fill.new.self (omega (arith, c.requires, c.put_map_rows.auto.out)) (c.fill.ensures.after (λ y e. e))
     ∙ ap (λ (t : List ℕ). cleared_from t (a.n * 27)) c.put_map_rows.ensures
     ∙ maps-filled a.d.now a.t.now a.v a.n a.numbers.now c.requires.2 a.out.now c.requires.0 c.requires.1 a.places.maps a.places.own c.requires.4 c.requires.5.maps c.requires.5.own c.requires.6

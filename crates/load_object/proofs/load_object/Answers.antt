@@ -17,7 +17,7 @@ load_tables-requires c =
     let a = c.args in
     let w = c.requires.1 in
     let k = c.parse in
-    let f = numbers-held a.d.now a.t.now a.v _ _ _ _ c.in-Numbers.n c.in-Numbers.ensures (omega (arith, k.auto.sections, w.most-sections)) (omega (arith, k.auto.programs, w.most-programs)) (omega (arith, k.auto.functions, w.most-functions)) (omega (arith, k.auto.maps, w.most-maps)) in (
+    let f = numbers-held a.d.now a.t.now a.v _ _ _ _ c.in-Ok.n c.in-Ok.ensures (omega (arith, k.auto.sections, w.most-sections)) (omega (arith, k.auto.programs, w.most-programs)) (omega (arith, k.auto.functions, w.most-functions)) (omega (arith, k.auto.maps, w.most-maps)) in (
       c.requires.0,
       f.0,
       f.1,
@@ -28,15 +28,15 @@ load_tables-requires c =
       omega (arith, k.auto.next, w.second-relocations),
     )
 
-pub returns-in-Refused : goal.returns-in-Refused
-returns-in-Refused c =
+pub returns-in-Err : goal.returns-in-Err
+returns-in-Err c =
     let a = c.args in
     let room = lent_room (length a.sections.now) (length a.programs.now) a.rows (length a.maps.now) (length a.relocations.now) (length a.bytes.now) in
-    let q = c.in-Refused in
+    let q = c.in-Err in
     let k = c.refuse.ensures in
     refused-loads a.d.now a.t.now room _ _ _ _ _ c.parse.new.functions q.r _ _
     (back-object room (object_in a.d.now a.t.now a.v) (patches_of a.entries.now a.patches.now) q.r (numbers-refused a.d.now a.t.now a.v _ _ _ _ q.r q.ensures) a.rewrite)
     k.0 k.1 k.2 k.3 k.4 k.5
 
-pub returns-in-Numbers : goal.returns-in-Numbers
-returns-in-Numbers c = c.load_tables.ensures
+pub returns-in-Ok : goal.returns-in-Ok
+returns-in-Ok c = c.load_tables.ensures

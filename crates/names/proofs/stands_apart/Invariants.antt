@@ -1,15 +1,11 @@
-use mathlib.Core.Path.{◌≡◌}
-use Prim.Native.Nat.{◌≤◌, ◌+◌, ◌-◌}
-use lib.ListN.{length}
+use Rattle.std.proofs.Common.{◌≡◌, ◌+◌, length}
 use Rattle.model.specs.Bytes.{same}
 use Rattle.stream.specs.Stream.{bytes_at}
 use Rattle.stream.specs.Run.{run_at}
 use Rattle.names.specs.Words.{word_rest}
 use Rattle.names.proofs.stands_apart.Given as goal
 
-abbrev pub invariant-loop-k : goal.invariant-loop-k
-invariant-loop-k l =
-    (l.k ≤ length l.word) × (l.run ≡ run_at l.gap (l.at + l.k)) × (same l.word (bytes_at l.d l.gap l.at (length l.word)) ≡ word_rest l.word (bytes_at l.d l.gap l.at (length l.word)) l.k)
-
-abbrev pub decreases-loop-k : goal.decreases-loop-k
-decreases-loop-k l = length l.word - l.k
+abbrev pub invariant-loop-x : goal.invariant-loop-x
+invariant-loop-x l =
+    let s = bytes_at l.name.stream.bytes.now l.name.stream.gap l.name.at (length l.word) in
+    (l.run ≡ run_at l.name.stream.gap (l.name.at + l.x-index)) × (same l.word s ≡ word_rest l.word s l.x-index)

@@ -1,16 +1,15 @@
 -- `names::starts_with` meets its contract: a name shorter than the word does not begin with it, and of a longer one only as many bytes as the word has count.
-use mathlib.Core.Path.{sym}
-use native.Mathlib.Omega.{arith}
+use Rattle.std.proofs.Common.{sym, arith}
 use Rattle.stream.specs.Stream.{bytes_at, length-bytes}
 use Rattle.names.specs.Words.{starts-short, starts-same}
 use Rattle.names.proofs.starts_with.Goals as goal
 
-pub returns-then-n-word : goal.returns-then-n-word
-returns-then-n-word c =
-    let a = c.args in
-    sym (starts-short a.word.now (bytes_at a.d.now a.gap a.at a.n) (rw length-bytes (omega arith)))
+pub returns-then-name-word : goal.returns-then-name-word
+returns-then-name-word c =
+    let n = c.args.name in
+    sym (starts-short c.args.word.now (bytes_at n.stream.bytes.now n.stream.gap n.at n.len) (rw length-bytes (omega arith)))
 
 pub returns : goal.returns
 returns c =
-    let a = c.args in
-    rw (starts-same a.d.now a.gap a.word.now a.at a.n (omega arith)) c.stands_at.ensures
+    let n = c.args.name in
+    rw (starts-same n.stream.bytes.now n.stream.gap c.args.word.now n.at n.len (omega arith)) c.stands_at.ensures

@@ -1,8 +1,7 @@
--- `object::code_offset` meets its contract: by the kind of the section; below the section's address the difference is 0.
+-- `object::code_offset` meets its contract: by the kind of the section.
 use mathlib.Core.Path.{◌≡◌, ◌∙◌}
 use mathlib.Core.Bool.{cond}
 use Prim.Native.Nat.{◌-◌}
-use native.Mathlib.Omega.{arith}
 use Rattle.object.specs.Offset.{record_offset, code_offset, code-offset}
 use Rattle.object.proofs.code_offset.Goals as goal
 use Rattle.object.proofs.code_offset.Goals.{After-is_program}
@@ -18,11 +17,5 @@ by_kind c =
 pub returns-then-is_program : goal.returns-then-is_program
 returns-then-is_program c = c.program_offset.ensures ∙ rw c.if-is_program.true at (by_kind (goal.at.returns-then-is_program c).After-is_program)
 
-pub returns-then-start-y : goal.returns-then-start-y
-returns-then-start-y c = rw c.if-is_program.false at (by_kind (goal.at.returns-then-start-y c).After-is_program)
-
-pub returns-else-start-y : goal.returns-else-start-y
-returns-else-start-y c =
-    let a = c.args in
-    let z : 0 ≡ a.y.address - a.s.address = omega arith in
-    z ∙ rw c.if-is_program.false at (by_kind (goal.at.returns-else-start-y c).After-is_program)
+pub returns-else-is_program : goal.returns-else-is_program
+returns-else-is_program c = c.saturating_sub.ensures ∙ rw c.if-is_program.false at (by_kind (goal.at.returns-else-is_program c).After-is_program)

@@ -20,20 +20,20 @@ returns-then-untargeted c =
     let a = c.args in
     c.of_section.ensures ∙ ap checked_of (sym (licence-four a.d.now a.t.now a.v a.s (sym (four (goal.at.returns-then-untargeted c).After-untargeted) ∙ c.if-untargeted.true)))
 
-pub returns-in-License : goal.returns-in-License
-returns-in-License c =
+pub returns-in-Ok : goal.returns-in-Ok
+returns-in-Ok c =
     let a = c.args in
-    let p = sym c.parsed_license.ensures ∙ c.in-License.is in
-    ap checked_of (sym (licence-parsed a.d.now a.t.now a.v a.s (sym (four (goal.at.returns-in-License c).After-untargeted) ∙ c.if-untargeted.false) _ p))
+    let p = sym c.parsed_license.ensures ∙ c.in-Ok.is in
+    ap checked_of (sym (licence-parsed a.d.now a.t.now a.v a.s (sym (four (goal.at.returns-in-Ok c).After-untargeted) ∙ c.if-untargeted.false) _ p))
 
-pub returns-in-InvalidLicense : goal.returns-in-InvalidLicense
-returns-in-InvalidLicense c =
+pub returns-in-Err-InvalidLicense : goal.returns-in-Err-InvalidLicense
+returns-in-Err-InvalidLicense c =
     let a = c.args in
-    let p = sym c.parsed_license.ensures ∙ c.in-InvalidLicense.is in
-    c.of_section-in-InvalidLicense.ensures ∙ ap checked_of (sym (licence-parsed a.d.now a.t.now a.v a.s (sym (four (goal.at.returns-in-InvalidLicense c).After-untargeted) ∙ c.if-untargeted.false) _ p))
+    let p = sym c.parsed_license.ensures ∙ (rw c.in-Err-InvalidLicense.field-0-is at c.in-Err-InvalidLicense.is) in
+    c.of_section-in-Err-InvalidLicense.ensures ∙ ap checked_of (sym (licence-parsed a.d.now a.t.now a.v a.s (sym (four (goal.at.returns-in-Err-InvalidLicense c).After-untargeted) ∙ c.if-untargeted.false) _ p))
 
-pub returns-in-MissingLicenseNullTerminator : goal.returns-in-MissingLicenseNullTerminator
-returns-in-MissingLicenseNullTerminator c =
+pub returns-in-Err-MissingLicenseNullTerminator : goal.returns-in-Err-MissingLicenseNullTerminator
+returns-in-Err-MissingLicenseNullTerminator c =
     let a = c.args in
-    let p = sym c.parsed_license.ensures ∙ c.in-MissingLicenseNullTerminator.is in
-    c.of_section-in-MissingLicenseNullTerminator.ensures ∙ ap checked_of (sym (licence-parsed a.d.now a.t.now a.v a.s (sym (four (goal.at.returns-in-MissingLicenseNullTerminator c).After-untargeted) ∙ c.if-untargeted.false) _ p))
+    let p = sym c.parsed_license.ensures ∙ (rw c.in-Err-MissingLicenseNullTerminator.field-0-is at c.in-Err-MissingLicenseNullTerminator.is) in
+    c.of_section-in-Err-MissingLicenseNullTerminator.ensures ∙ ap checked_of (sym (licence-parsed a.d.now a.t.now a.v a.s (sym (four (goal.at.returns-in-Err-MissingLicenseNullTerminator c).After-untargeted) ∙ c.if-untargeted.false) _ p))

@@ -1,8 +1,7 @@
 -- `parse_first::next_untargeted` meets its contract: from k on the table is filled, and `nearest` is what stands at k.
-use mathlib.Core.Path.{◌≡◌, refl, sym, ap, ◌∙◌}
+use mathlib.Core.Path.{◌≡◌, sym, ap, ◌∙◌}
 use Prim.Native.Nat.{ℕ, ◌-◌}
 use native.Mathlib.Omega.{arith}
-use lib.ListN.{length-set}
 use Rattle.parse_first.specs.Targets.{next_untargeted, next-end, next-before, filled_from, filled_none, filled-before, filled-all}
 use Rattle.parse_first.proofs.next_untargeted.Goals as goal
 
@@ -10,7 +9,7 @@ pub loop-k-init : goal.loop-k-init
 loop-k-init c =
     let a = c.args in
     let f = next_untargeted a.d.now a.t.now a.v in
-    (omega arith, sym (next-end a.d.now a.t.now a.v), refl, filled_none f a.v.relocations a.next.now)
+    (sym (next-end a.d.now a.t.now a.v), filled_none f a.v.relocations a.next.now)
 
 pub loop-k-preserved : goal.loop-k-preserved
 loop-k-preserved c =
@@ -19,12 +18,10 @@ loop-k-preserved c =
     let f = next_untargeted a.d.now a.t.now a.v in
     let n : c.nearer-nearest.result ≡ f (k - 1) =
     c.nearer-nearest.ensures
-    ∙ rw (c.relocation_symbol.ensures, c.loop-k.invariant.1) (sym (next-before a.d.now a.t.now a.v k (omega arith) (omega arith)))
+    ∙ rw (c.relocation_symbol.ensures, c.loop-k.invariant.0) (sym (next-before a.d.now a.t.now a.v k (omega arith) (omega arith)))
     in (
-      omega arith,
       n,
-      rw length-set c.loop-k.invariant.2,
-      rw (c.size-i.ensures.0, n, c.loop-k.invariant.3) (filled-before f k a.v.relocations a.next.now (omega arith) (omega arith) (omega arith)),
+      rw (c.size-i.ensures.0, n, c.loop-k.invariant.1) (filled-before f k a.v.relocations a.next.now (omega arith) (omega arith) (omega arith)),
     )
 
 pub returns : goal.returns
@@ -32,6 +29,6 @@ returns c =
     let a = c.args in
     let f = next_untargeted a.d.now a.t.now a.v in
     let e : c.loop-k.k ≡ 0 = omega arith in
-    c.loop-k.invariant.3
+    c.loop-k.invariant.1
     ∙ ap (λ (k : ℕ). filled_from f k a.v.relocations a.next.now) e
     ∙ filled-all f a.v.relocations a.next.now

@@ -2,7 +2,7 @@
 use mathlib.Core.Path.{◌≡◌, sym}
 use native.Mathlib.Omega.{arith}
 use Rattle.object.specs.View.{section_from}
-use Rattle.parse_first.specs.Named.{named_other}
+use Rattle.parse_first.specs.Named.{named_other, or-some}
 use Rattle.parse_first.proofs.with_section.Goals as goal
 
 pub returns-then-name-ne7 : goal.returns-then-name-ne7
@@ -13,4 +13,4 @@ returns-then-name-ne7 c =
 
 pub returns : goal.returns
 unfolding section_from
-returns c = rw (c.found_or-2.ensures, c.found_or.ensures, c.is_word-is_version.ensures, c.is_word-is_license.ensures, c.section_name-name.ensures)
+returns c = rw (c.or.ensures, c.then_some.ensures, c.or-2.ensures, c.then_some-2.ensures, or-some, or-some, c.is_word-is_version.ensures, c.is_word-is_license.ensures, c.section_name-name.ensures)

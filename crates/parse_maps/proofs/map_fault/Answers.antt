@@ -26,7 +26,7 @@ tested : (c : After-invalid_map_definition)
     ≡ invalid_map_definition a.y.size (words_of (bytes_at a.d.now (gap_of a.v) (a.v.at.bytes + a.s.bytes.at + a.y.address) a.y.size)))
 tested c =
     c.invalid_map_definition.ensures
-    ∙ rw (c.parse_map_def-def.ensures, c.gap.ensures.0, c.data_place.ensures.0)
+    ∙ rw (c.parse_map_def-def.ensures, c.span.ensures.stream, c.span.ensures.at, c.span.ensures.len, c.stream.ensures.bytes, c.stream.ensures.gap, c.data_place.ensures.0)
 
 pub returns-then-invalid_map_definition : goal.returns-then-invalid_map_definition
 returns-then-invalid_map_definition c =

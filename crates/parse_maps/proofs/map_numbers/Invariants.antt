@@ -1,6 +1,5 @@
 use mathlib.Core.Path.{◌≡◌}
-use Prim.Native.Nat.{◌+◌, ◌-◌, ◌≤◌}
-use lib.ListN.{length}
+use Prim.Native.Nat.{◌+◌, ◌-◌}
 use lib.Seq.{slice}
 use Rattle.catalogue_laws.specs.Groups.{LaidFrom}
 use Rattle.parse_maps.specs.Fault.{symbol_map_numbers}
@@ -8,7 +7,4 @@ use Rattle.parse_maps.proofs.map_numbers.Given as goal
 
 abbrev pub invariant-loop-i : goal.invariant-loop-i
 invariant-loop-i l =
-    (l.lo ≤ l.i) × (l.i ≤ l.hi) × (l.n ≡ l.w + (l.i - l.lo)) × (length l.out ≡ length l.initial.out) × LaidFrom l.w l.n (symbol_map_numbers l.sections (slice l.lo l.i l.symbols)) l.initial.out l.out
-
-abbrev pub decreases-loop-i : goal.decreases-loop-i
-decreases-loop-i l = l.hi - l.i
+    (l.n ≡ l.w + (l.i - l.lo)) × LaidFrom l.w l.n (symbol_map_numbers l.sections (slice l.lo l.i l.symbols)) l.initial.out l.out

@@ -1,6 +1,4 @@
-use mathlib.Core.Path.{◌≡◌}
 use Prim.Native.Nat.{◌+◌, ◌-◌, ◌≤◌}
-use lib.ListN.{length}
 use lib.Seq.{slice}
 use Rattle.catalogue_laws.specs.Groups.{LaidFrom}
 use Rattle.object.specs.Group.{programs_among}
@@ -8,7 +6,4 @@ use Rattle.parse_programs.proofs.program_numbers.Given as goal
 
 abbrev pub invariant-loop-i : goal.invariant-loop-i
 invariant-loop-i l =
-    (l.lo ≤ l.i) × (l.i ≤ l.hi) × (l.n ≤ l.w + (l.i - l.lo)) × (length l.out ≡ length l.initial.out) × LaidFrom l.w l.n (programs_among l.d l.t l.v (slice l.lo l.i l.symbols)) l.initial.out l.out
-
-abbrev pub decreases-loop-i : goal.decreases-loop-i
-decreases-loop-i l = l.hi - l.i
+    (l.n ≤ l.w + (l.i - l.lo)) × LaidFrom l.w l.n (programs_among l.d l.t l.v (slice l.lo l.i l.symbols)) l.initial.out l.out

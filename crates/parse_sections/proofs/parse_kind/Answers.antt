@@ -4,6 +4,7 @@ use Rattle.model.specs.SectionKind.{kind_of}
 use Rattle.object.specs.View.{section_from}
 use Rattle.parse_sections.proofs.OtherKinds.{not-kind}
 use Rattle.model.specs.declared.EbpfSectionKind.{EbpfSectionKind as Kind}
+use Rattle.std.proofs.lemmas.Result.{err_from_is_err_and}
 use mathlib.Core.Path.{sym, ◌∙◌}
 use Rattle.parse_sections.proofs.parse_kind.Goals as goal
 
@@ -13,11 +14,17 @@ returns-in-Program c =
     kind-program a.d.now a.t.now a.v a.s a.functions.now a.w c.parse_programs.result _ (sym c.requires.6 ∙ c.in-Program.is)
     c.parse_programs.ensures
 
-pub returns-in-Maps : goal.returns-in-Maps
-returns-in-Maps c =
+pub returns-in_err-parse_maps_section-in-Maps : goal.returns-in_err-parse_maps_section-in-Maps
+returns-in_err-parse_maps_section-in-Maps c =
     let a = c.args in
-    rw (c.answer.ensures, c.parse_maps_section.ensures)
-    (kind-maps a.d.now a.t.now a.v a.s a.functions.now a.w (sym c.requires.6 ∙ c.in-Maps.is))
+    let p = err_from_is_err_and c.from_residual.result c.from_residual.ensures.1 in
+    rw (p.1, p.2)
+    (rw (sym c.parse_maps_section.ensures ∙ c.in_err-parse_maps_section-in-Maps.was) at (kind-maps a.d.now a.t.now a.v a.s a.functions.now a.w (sym c.requires.6 ∙ c.in-Maps.is)))
+
+pub returns-in_ok-parse_maps_section-in-Maps : goal.returns-in_ok-parse_maps_section-in-Maps
+returns-in_ok-parse_maps_section-in-Maps c =
+    let a = c.args in
+    rw (sym c.parse_maps_section.ensures ∙ c.in_ok-parse_maps_section-in-Maps.was) at (kind-maps a.d.now a.t.now a.v a.s a.functions.now a.w (sym c.requires.6 ∙ c.in-Maps.is))
 
 pub returns-in-Text : goal.returns-in-Text
 returns-in-Text c =
@@ -28,7 +35,7 @@ returns-in-Text c =
 pub returns-in-BtfMaps : goal.returns-in-BtfMaps
 returns-in-BtfMaps c =
     let a = c.args in
-    rw (c.answer-in-BtfMaps.ensures, c.of_section.ensures)
+    rw (rw c.of_section.ensures at c.map.ensures.cases)
     (kind-btf-maps a.d.now a.t.now a.v a.s a.functions.now a.w (sym c.requires.6 ∙ c.in-BtfMaps.is))
 
 pub returns-in_default : goal.returns-in_default

@@ -5,6 +5,7 @@ use Rattle.parse_first.specs.Targets.{NextOf, next_of}
 use Prim.Native.Nat.{◌-◌}
 use lib.ListN.{length, drop}
 use lib.Seq.{length_front}
+use Rattle.std.proofs.lemmas.Result.{err_from_is_err_and}
 use mathlib.Core.List.{◌++◌}
 use mathlib.Core.Path.{◌≡◌, sym, ap, ◌∙◌}
 use Rattle.parse_sections.proofs.parse_object.Goals as goal
@@ -23,45 +24,47 @@ pub license_refusal-requires : goal.license_refusal-requires
 license_refusal-requires c =
     (ap (λ n. n.license) c.find_named-named.ensures, next_known (goal.at.license_refusal-requires c).After-next_untargeted, c.requires.6)
 
-pub shape_of-next-in-Refused : goal.shape_of-next-in-Refused
-shape_of-next-in-Refused c = c.next_untargeted.auto.next
+pub shape_of-next-in_err-license_refusal : goal.shape_of-next-in_err-license_refusal
+shape_of-next-in_err-license_refusal c = c.next_untargeted.auto.next
 
-pub shape_of-symbols-in-Refused : goal.shape_of-symbols-in-Refused
-shape_of-symbols-in-Refused c = c.by_section.auto.symbols
+pub shape_of-symbols-in_err-license_refusal : goal.shape_of-symbols-in_err-license_refusal
+shape_of-symbols-in_err-license_refusal c = c.by_section.auto.symbols
 
-pub shape_of-programs-in-Refused : goal.shape_of-programs-in-Refused
-shape_of-programs-in-Refused c = programs-long (goal.at.shape_of-programs-in-Refused c).After-by_section
+pub shape_of-programs-in_err-license_refusal : goal.shape_of-programs-in_err-license_refusal
+shape_of-programs-in_err-license_refusal c = programs-long (goal.at.shape_of-programs-in_err-license_refusal c).After-by_section
 
-pub returns-in-Refused : goal.returns-in-Refused
-returns-in-Refused c =
+pub returns-in_err-license_refusal : goal.returns-in_err-license_refusal
+returns-in_err-license_refusal c =
     let a = c.args in
-    refused-licence a.d.now a.t.now a.v _ (checked_refused _ _ (sym c.license_refusal.ensures ∙ c.in-Refused.is))
+    let p = err_from_is_err_and c.from_residual.result c.from_residual.ensures.1 in
+    rw (p.1, p.2) (refused-licence a.d.now a.t.now a.v _ (checked_refused _ _ (sym c.license_refusal.ensures ∙ c.in_err-license_refusal.was)))
 
 pub version_refusal-requires : goal.version_refusal-requires
 version_refusal-requires c =
     (ap (λ n. n.version) c.find_named-named.ensures, next_known (goal.at.version_refusal-requires c).After-next_untargeted, c.requires.6)
 
-pub shape_of-next-in-Refused-version_refusal : goal.shape_of-next-in-Refused-version_refusal
-shape_of-next-in-Refused-version_refusal c = c.next_untargeted.auto.next
+pub shape_of-next-in_err-version_refusal : goal.shape_of-next-in_err-version_refusal
+shape_of-next-in_err-version_refusal c = c.next_untargeted.auto.next
 
-pub shape_of-symbols-in-Refused-version_refusal : goal.shape_of-symbols-in-Refused-version_refusal
-shape_of-symbols-in-Refused-version_refusal c = c.by_section.auto.symbols
+pub shape_of-symbols-in_err-version_refusal : goal.shape_of-symbols-in_err-version_refusal
+shape_of-symbols-in_err-version_refusal c = c.by_section.auto.symbols
 
-pub shape_of-programs-in-Refused-version_refusal : goal.shape_of-programs-in-Refused-version_refusal
-shape_of-programs-in-Refused-version_refusal c = programs-long (goal.at.shape_of-programs-in-Refused-version_refusal c).After-by_section
+pub shape_of-programs-in_err-version_refusal : goal.shape_of-programs-in_err-version_refusal
+shape_of-programs-in_err-version_refusal c = programs-long (goal.at.shape_of-programs-in_err-version_refusal c).After-by_section
 
-pub returns-in-Refused-version_refusal : goal.returns-in-Refused-version_refusal
-returns-in-Refused-version_refusal c =
+pub returns-in_err-version_refusal : goal.returns-in_err-version_refusal
+returns-in_err-version_refusal c =
     let a = c.args in
-    let fine = checked-fine _ (sym c.license_refusal.ensures ∙ c.in_default.is) in
-    refused-version a.d.now a.t.now a.v fine _ (checked_refused _ _ (sym c.version_refusal.ensures ∙ c.in-Refused-version_refusal.is))
+    let fine = checked-fine _ (sym c.license_refusal.ensures ∙ c.in_ok-license_refusal.was) in
+    let p = err_from_is_err_and c.from_residual-in_err-version_refusal.result c.from_residual-in_err-version_refusal.ensures.1 in
+    rw (p.1, p.2) (refused-version a.d.now a.t.now a.v fine _ (checked_refused _ _ (sym c.version_refusal.ensures ∙ c.in_err-version_refusal.was)))
 
 pub license_of-license-requires : goal.license_of-license-requires
 license_of-license-requires c = ap (λ n. n.license) c.find_named-named.ensures
 
 pub version_of-version-requires : goal.version_of-version-requires
 version_of-version-requires c =
-    (ap (λ n. n.version) c.find_named-named.ensures, checked-fine _ (sym c.version_refusal.ensures ∙ c.in_default-version_refusal.is))
+    (ap (λ n. n.version) c.find_named-named.ensures, checked-fine _ (sym c.version_refusal.ensures ∙ c.in_ok-version_refusal.was))
 
 pub parse_sections-requires : goal.parse_sections-requires
 parse_sections-requires c =
@@ -89,6 +92,6 @@ shape_of-maps c = c.parse_sections.auto.maps
 pub returns : goal.returns
 returns c =
     let a = c.args in
-    let one = checked-fine _ (sym c.license_refusal.ensures ∙ c.in_default.is) in
-    let two = checked-fine _ (sym c.version_refusal.ensures ∙ c.in_default-version_refusal.is) in
+    let one = checked-fine _ (sym c.license_refusal.ensures ∙ c.in_ok-license_refusal.was) in
+    let two = checked-fine _ (sym c.version_refusal.ensures ∙ c.in_ok-version_refusal.was) in
     rw (refused-sections a.d.now a.t.now a.v one two) c.parse_sections.ensures

@@ -17,7 +17,7 @@ returns-then-untargeted c =
     let a = c.args in
     let k = sym (c.is_btf_ext.ensures ∙ ap (is_kind Kind.BtfExt) c.requires.6) in
     let r = reaches-untargeted a.d.now a.t.now a.v a.next.now a.s c.requires.7 c.requires.8 in
-    rw (c.answer.ensures, c.of_section.ensures)
+    rw (rw c.of_section.ensures at c.map.ensures.cases)
     (section-untargeted a.d.now a.t.now a.v a.s a.functions.now a.w (k ∙ c.if-is_btf_ext.false) (sym (c.untargeted.ensures ∙ r) ∙ c.if-untargeted.true))
 
 pub returns : goal.returns

@@ -1,5 +1,6 @@
 -- `parse_tables::parse` meets its contract: what the pass over the sections refuses, else the four tables.
 use Rattle.parse_tables.specs.Parsed.{lent_length, parsed-refused, parsed-numbers}
+use Rattle.std.proofs.lemmas.Result.{err_from_is_err_and}
 use mathlib.Core.Path.{◌∙◌}
 use lib.ListN.{length}
 use lib.Seq.{length_front}
@@ -7,8 +8,8 @@ use Prim.Native.Nat.{◌-◌, ◌≤◌}
 use native.Mathlib.Omega.{arith}
 use Rattle.parse_tables.proofs.parse.Goals as goal
 
-pub parse_object-listed-requires : goal.parse_object-listed-requires
-parse_object-listed-requires c =
+pub parse_object-requires : goal.parse_object-requires
+parse_object-requires c =
     let a = c.args in
     let q = c.requires in
     let few : a.v.symbols ≤ length a.symbols.now = omega (arith, q.4) in
@@ -16,24 +17,25 @@ parse_object-listed-requires c =
 
 pub number_tables-counts-requires : goal.number_tables-counts-requires
 number_tables-counts-requires c = (
-  rw c.in-Numbers.is at c.parse_object-listed.ensures,
-  rw (length_front c.args.symbols.now c.parse_object-listed.new.symbols (c.size-y.result - 0) c.parse_object-listed.auto.symbols) c.requires.4,
+  rw c.in_ok-n.was at c.parse_object.ensures,
+  rw (length_front c.args.symbols.now c.parse_object.new.symbols (c.size-y.result - 0) c.parse_object.auto.symbols) c.requires.4,
 )
 
-pub returns-in-Refused : goal.returns-in-Refused
-returns-in-Refused c =
+pub returns-in_err-n : goal.returns-in_err-n
+returns-in_err-n c =
     let a = c.args in
-    parsed-refused a.d.now a.t.now a.v _ _ _ _ _ (rw c.in-Refused.is at c.parse_object-listed.ensures)
+    let p = err_from_is_err_and c.from_residual.result c.from_residual.ensures.1 in
+    rw (p.1, p.2) (parsed-refused a.d.now a.t.now a.v _ _ _ _ _ (rw c.in_err-n.was at c.parse_object.ensures))
 
-pub shape_of-symbols-in-Numbers : goal.shape_of-symbols-in-Numbers
-shape_of-symbols-in-Numbers c =
-    c.number_tables-counts.auto.tmp ∙ length_front c.args.symbols.now c.parse_object-listed.new.symbols (c.size-y.result - 0) c.parse_object-listed.auto.symbols
+pub shape_of-symbols : goal.shape_of-symbols
+shape_of-symbols c =
+    c.number_tables-counts.auto.tmp ∙ length_front c.args.symbols.now c.parse_object.new.symbols (c.size-y.result - 0) c.parse_object.auto.symbols
 
-pub shape_of-next-in-Numbers : goal.shape_of-next-in-Numbers
-shape_of-next-in-Numbers c = c.parse_object-listed.auto.next
+pub shape_of-next : goal.shape_of-next
+shape_of-next c = c.parse_object.auto.next
 
-pub returns-in-Numbers : goal.returns-in-Numbers
-returns-in-Numbers c =
+pub returns : goal.returns
+returns c =
     let a = c.args in
-    let found = rw c.in-Numbers.is at c.parse_object-listed.ensures in
+    let found = rw c.in_ok-n.was at c.parse_object.ensures in
     parsed-numbers a.d.now a.t.now a.v _ _ _ _ c.number_tables-counts.result found.fine c.number_tables-counts.ensures.0 c.number_tables-counts.ensures.1

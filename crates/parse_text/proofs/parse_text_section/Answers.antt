@@ -4,17 +4,17 @@ use Rattle.records.specs.View.{symbol_at}
 use Rattle.parse_text.specs.Parsed.{refusal, parsed-conflict, parsed-walk}
 use Rattle.parse_text.proofs.parse_text_section.Goals as goal
 
-pub returns-in-At : goal.returns-in-At
-returns-in-At c =
+pub returns-in-Some : goal.returns-in-Some
+returns-in-Some c =
     let a = c.args in
     let y = c.symbol-y in
-    let e : c.refused.result ≡ refusal 11 a.s.index (symbol_at a.d.now a.t.now a.v c.in-At.j).index = c.refused.ensures ∙ rw y.ensures in
+    let e : c.refused.result ≡ refusal 11 a.s.index (symbol_at a.d.now a.t.now a.v c.in-Some.j).index = c.refused.ensures ∙ rw y.ensures in
     rw e
-    (parsed-conflict a.d.now a.t.now a.v a.s a.symbols.now a.lo a.hi c.requires.hi_value c.symbol_table_conflict.result a.out.now a.w c.in-At.j
-    c.symbol_table_conflict.ensures c.in-At.is)
+    (parsed-conflict a.d.now a.t.now a.v a.s a.symbols.now a.lo a.hi c.requires.hi_value c.symbol_table_conflict.result a.out.now a.w c.in-Some.j
+    c.symbol_table_conflict.ensures c.in-Some.is)
 
-pub returns-in-Nothing : goal.returns-in-Nothing
-returns-in-Nothing c =
+pub returns-in-None : goal.returns-in-None
+returns-in-None c =
     let a = c.args in
     parsed-walk a.d.now a.t.now a.v a.s a.symbols.now a.lo a.hi c.requires.hi_value c.symbol_table_conflict.result a.out.now a.w c.walk.result c.walk.new.out
-    c.symbol_table_conflict.ensures c.in-Nothing.is c.walk.ensures
+    c.symbol_table_conflict.ensures c.in-None.is c.walk.ensures

@@ -9,16 +9,16 @@ use Rattle.parse_text.proofs.symbol_table_conflict.Goals as goal
 pub loop-k-init : goal.loop-k-init
 loop-k-init c =
     let a = c.args in
-    (omega arith, answer-first (address_in a.d.now a.t.now a.v) (text_group a.d.now a.t.now a.v a.symbols.now a.lo a.hi))
+    answer-first (address_in a.d.now a.t.now a.v) (text_group a.d.now a.t.now a.v a.symbols.now a.lo a.hi)
 
 pub loop-k-preserved : goal.loop-k-preserved
 loop-k-preserved c =
     let a = c.args in
     let y = c.symbol in
     let m : again_next c.loop-k.a (get_or a.symbols.now c.loop-k.k 0) y.result ≡ c.next-a.result = sym c.next-a.ensures in
-    (omega arith, c.loop-k.invariant.1 ∙ answer-next a.d.now a.t.now a.v c.loop-k.a a.symbols.now c.loop-k.k a.hi (omega arith) (omega arith) ∙ rw (← y.ensures, m))
+    c.loop-k.invariant ∙ answer-next a.d.now a.t.now a.v c.loop-k.a a.symbols.now c.loop-k.k a.hi (omega arith) (omega arith) ∙ rw (← y.ensures, m)
 
 pub returns : goal.returns
 returns c =
     let a = c.args in
-    sym (c.loop-k.invariant.1 ∙ rw (group-end a.d.now a.t.now a.v a.symbols.now c.loop-k.k a.hi (omega arith) (omega arith)) (answer-end (address_in a.d.now a.t.now a.v) c.loop-k.a))
+    sym (c.loop-k.invariant ∙ rw (group-end a.d.now a.t.now a.v a.symbols.now c.loop-k.k a.hi (omega arith) (omega arith)) (answer-end (address_in a.d.now a.t.now a.v) c.loop-k.a))

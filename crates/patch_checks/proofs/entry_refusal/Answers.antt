@@ -14,20 +14,19 @@ use Rattle.object.specs.View.{object_in}
 use Rattle.patch_checks.specs.Entries.{patch_by, lent-ranges, bytes-length}
 use Rattle.patch_checks.specs.Checks.{maps_of_numbers, entry_fault, not-inside, other-mark, by-bearer}
 use Rattle.patch_checks.proofs.entry_refusal.Goals as goal
-use Rattle.patch_checks.proofs.entry_refusal.Goals.{After-bearer_of, Else-not-is_lent}
+use Rattle.patch_checks.proofs.entry_refusal.Goals.{After-bearer_of, Else-not-is_lent, then-not-is_lent-via-then-not-is_lent, then-not-is_lent-via-else-not-is_lent+then-x-gt1}
 
 pub returns-then-not-is_lent : goal.returns-then-not-is_lent
+unfolding patch_by
 returns-then-not-is_lent c =
     let a = c.args in
+    let ms = maps_of_numbers a.d.now a.t.now a.v a.maps.now a.n in
+    let p = patch_by a.patches.now a.x in
     c.of_entry.ensures
-    ∙ ap checked_of (sym (not-inside a.d.now a.t.now a.v (maps_of_numbers a.d.now a.t.now a.v a.maps.now a.n) a.e (patch_by a.patches.now a.x) (sym c.is_lent.ensures ∙ c.if-not-is_lent.true)))
-
-pub returns-then-x-gt1 : goal.returns-then-x-gt1
-unfolding patch_by
-returns-then-x-gt1 c =
-    let a = c.args in
-    c.of_entry-then-x-gt1.ensures
-    ∙ ap checked_of (sym (other-mark a.d.now a.t.now a.v (maps_of_numbers a.d.now a.t.now a.v a.maps.now a.n) a.e (patch_by a.patches.now a.x) (omega arith)))
+    ∙ ap checked_of (sym (elim c.then-not-is_lent.branch [
+      | then-not-is_lent-via-then-not-is_lent w ↦ not-inside a.d.now a.t.now a.v ms a.e p (sym c.is_lent.ensures ∙ w.if-not-is_lent.true)
+      | then-not-is_lent-via-else-not-is_lent+then-x-gt1 w ↦ other-mark a.d.now a.t.now a.v ms a.e p (omega (arith, w.if-x-gt1.true))
+    ]))
 
 lent : (c : Else-not-is_lent) → (patch_by c.args.patches.now c.args.x).inside ≡ true
 lent c = sym c.is_lent.ensures ∙ c.if-not-is_lent.false

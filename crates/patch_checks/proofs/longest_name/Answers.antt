@@ -9,20 +9,18 @@ use Rattle.patch_checks.proofs.longest_name.Goals as goal
 
 pub loop-e-init : goal.loop-e-init
 unfolding longest
-loop-e-init c = (omega arith, refl)
+loop-e-init c = refl
 
 abbrev bytes : Entry → ℕ
 bytes x = x.name.length
 
 pub loop-e-preserved : goal.loop-e-preserved
 unfolding longest
-loop-e-preserved c =
-    let l = c.loop-e in
-    (omega arith, c.longer-bytes.ensures ∙ rw add-one (ap₂ longer l.invariant.1 (ap bytes c.entry_at-x.ensures)))
+loop-e-preserved c = c.longer-bytes.ensures ∙ rw add-one (ap₂ longer c.loop-e.invariant (ap bytes c.entry_at.ensures))
 
 pub returns : goal.returns
 returns c =
     let l = c.loop-e in
     let entries = c.args.entries.now in
     let e : l.e ≡ entry_count entries = omega arith in
-    l.invariant.1 ∙ ap (longest entries) e
+    l.invariant ∙ ap (longest entries) e

@@ -2,6 +2,7 @@
 use mathlib.Core.Path.{◌≡◌, refl, sym, ap, ◌∙◌}
 use Prim.Native.Nat.{◌+◌, ◌^◌, ◌<◌}
 use native.Mathlib.Omega.{arith}
+use Rattle.std.proofs.lemmas.Result.{err_from_is_err_and}
 use Rattle.model.specs.Refusals.{entry_refusal}
 use Rattle.object.specs.Checked.{checked_of}
 use Rattle.object.specs.View.{object_in}
@@ -12,7 +13,7 @@ use Rattle.patch_checks.proofs.patch_refusal.Goals as goal
 use Rattle.patch_checks.proofs.patch_refusal.Goals.{After-entry_at-x, After-entry_refusal}
 
 pub loop-e-init : goal.loop-e-init
-loop-e-init c = (omega arith, refl)
+loop-e-init c = refl
 
 pub entry_refusal-requires : goal.entry_refusal-requires
 entry_refusal-requires c =
@@ -27,22 +28,23 @@ answer c =
     ∙ ap (λ (x : Entry). checked_of (entry_refusal (object_in a.d.now a.t.now a.v) (maps_of_numbers a.d.now a.t.now a.v a.maps.now a.n) (c.loop-e.e + 1) (patch_by a.patches.now x)))
     c.entry_at-x.ensures
 
-pub returns-in-Refused : goal.returns-in-Refused
-returns-in-Refused c =
+pub returns-in_err-entry_refusal : goal.returns-in_err-entry_refusal
+returns-in_err-entry_refusal c =
     let a = c.args in
     let o = object_in a.d.now a.t.now a.v in
     let ms = maps_of_numbers a.d.now a.t.now a.v a.maps.now a.n in
     let l = c.loop-e in
     let w = c.entry_refusal.result in
-    let told = c.in-Refused.is in
-    sym told ∙ rest-refused o ms a.entries.now a.patches.now l.e (omega arith) w (answer (goal.at.returns-in-Refused c).After-entry_refusal) _ told
-    ∙ ap checked_of (sym (rest_all o ms a.entries.now a.patches.now ∙ l.invariant.1))
+    let told = c.in_err-entry_refusal.was in
+    let p = err_from_is_err_and c.from_residual.result c.from_residual.ensures.1 in
+    rw (p.1, p.2) (sym told ∙ rest-refused o ms a.entries.now a.patches.now l.e (omega arith) w (answer (goal.at.returns-in_err-entry_refusal c).After-entry_refusal) _ told
+    ∙ ap checked_of (sym (rest_all o ms a.entries.now a.patches.now ∙ l.invariant)))
 
 few : (c : After-entry_at-x) → c.loop-e.e + 1 < 2 ^ 64
 few c = omega arith
 
-pub overflow_add-e : goal.overflow_add-e
-overflow_add-e c = omega (arith, few (goal.at.overflow_add-e c).After-entry_at-x)
+pub overflow_add-entry : goal.overflow_add-entry
+overflow_add-entry c = omega (arith, few (goal.at.overflow_add-entry c).After-entry_at-x)
 
 pub loop-e-preserved : goal.loop-e-preserved
 loop-e-preserved c =
@@ -50,7 +52,7 @@ loop-e-preserved c =
     let o = object_in a.d.now a.t.now a.v in
     let ms = maps_of_numbers a.d.now a.t.now a.v a.maps.now a.n in
     let l = c.loop-e in
-    (omega arith, l.invariant.1 ∙ (rest-next o ms a.entries.now a.patches.now l.e (omega arith) c.entry_refusal.result (answer (goal.at.loop-e-preserved c).After-entry_refusal) c.in_default.is).1)
+    l.invariant ∙ (rest-next o ms a.entries.now a.patches.now l.e (omega arith) c.entry_refusal.result (answer (goal.at.loop-e-preserved c).After-entry_refusal) c.in_ok-entry_refusal.was).1
 
 pub returns : goal.returns
 returns c =
@@ -58,4 +60,4 @@ returns c =
     let o = object_in a.d.now a.t.now a.v in
     let ms = maps_of_numbers a.d.now a.t.now a.v a.maps.now a.n in
     let l = c.loop-e in
-    sym (ap checked_of (rest_all o ms a.entries.now a.patches.now ∙ l.invariant.1 ∙ rest_end o ms a.entries.now a.patches.now l.e (omega arith)))
+    sym (ap checked_of (rest_all o ms a.entries.now a.patches.now ∙ l.invariant ∙ rest_end o ms a.entries.now a.patches.now l.e (omega arith)))

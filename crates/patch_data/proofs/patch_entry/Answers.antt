@@ -1,6 +1,6 @@
 -- `patch_data::patch_entry` meets its contract: an accepted entry is passed over, or acts on the one symbol that bears its name.
 use mathlib.Core.Path.{◌≡◌, sym, ap, ◌∙◌}
-use mathlib.Core.Option.{none}
+use Rattle.std.specs.Prelude.{None}
 use Prim.Native.Nat.{◌+◌, ◌-◌, ◌≤◌}
 use native.Mathlib.Omega.{arith}
 use lib.ListN.{length}
@@ -21,7 +21,7 @@ use Rattle.patch_data.proofs.patch_entry.Goals.{After-bearer_of, After-entry_at-
 accepted : (s : After-entry_at-x)
     → (let a = s.args in
     entry_refusal (object_in a.d.now a.t.now a.v) (maps_of_numbers a.d.now a.t.now a.v (map_numbers a.d.now a.t.now a.v) (map_count a.d.now a.t.now a.v)) (a.e + 1)
-    (patch_at a.entries.now a.patches.now a.e) ≡ none)
+    (patch_at a.entries.now a.patches.now a.e) ≡ None)
 accepted s =
     let a = s.args in
     (rest-none (object_in a.d.now a.t.now a.v) (maps_of_numbers a.d.now a.t.now a.v (map_numbers a.d.now a.t.now a.v) (map_count a.d.now a.t.now a.v))

@@ -15,5 +15,5 @@ returns c =
     let b = a.bytes.now in
     let e : a.at + a.len - a.at ≡ a.len = omega arith in
     let f : a.from + a.len - a.from ≡ a.len = omega arith in
-    ap (λ (ys : List ℕ). take a.at b ++ (ys ++ drop (a.at + a.len - a.at) (drop a.at b))) c.copy8.ensures
+    ap (λ (ys : List ℕ). take a.at b ++ (ys ++ drop (a.at + a.len - a.at) (drop a.at b))) c.copy_from_slice.ensures.after
     ∙ rw (e, f) (stored b (part a.patches.now a.from a.len) a.at a.len (length_part a.patches.now a.from a.len c.requires.1) c.requires.0)

@@ -1,4 +1,5 @@
 -- `rows_maps::data_row` meets its contract: the record read and the numbers of the section's kind are those of the map.
+use native.Mathlib.Omega.{arith}
 use Rattle.records.specs.Maps.{section-below}
 use Rattle.rows_maps.specs.Maps.{data_is}
 use Rattle.rows_maps.proofs.data_row.Goals as goal
@@ -13,12 +14,11 @@ returns c =
     let a = c.args in
     let s = c.section-s in
     let k = c.kind_of-kind in
-    let len = c.size in
     let own = c.own_length in
     record {
       row =
-          rw (c.parse_data_map_section.ensures, own.ensures.0, c.kind_number.ensures, c.wide64.ensures.0, len.ensures.0, k.ensures)
+          rw (c.parse_data_map_section.ensures, own.ensures.0, c.kind_number.ensures, c.from.ensures, k.ensures)
           (data_is a.d.now a.t.now a.v a.n a.i s.result c.requires.0 s.ensures);
-      name-short = len.ensures.1;
+      name-short = omega (arith, s.type_inv);
       own-short = own.ensures.1 c.requires.1;
     }

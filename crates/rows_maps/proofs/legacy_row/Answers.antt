@@ -16,20 +16,19 @@ pub overflow_add-at : goal.overflow_add-at
 overflow_add-at c =
     omega (arith, inside (goal.at.overflow_add-at c).After-member_at-m, c.member_at-m.type_inv)
 
-pub parse_map_def-requires : goal.parse_map_def-requires
-parse_map_def-requires c =
-    (c.gap.ensures.1, omega (arith, inside (goal.at.parse_map_def-requires c).After-member_at-m, c.member_at-m.type_inv))
+pub span-requires : goal.span-requires
+span-requires c =
+    omega (arith, inside (goal.at.span-requires c).After-member_at-m, c.member_at-m.type_inv)
 
 pub returns : goal.returns
 returns c =
     let m = c.member_at-m in
     let p = c.data_place in
-    let len = c.size in
     let a = c.args in
     record {
       row =
-          rw (c.parse_map_def.ensures, c.gap.ensures.0, c.wide64-2.ensures.0, c.kind_number.ensures, c.wide64.ensures.0, len.ensures.0, p.ensures.0)
+          rw (c.parse_map_def.ensures, c.span.ensures.stream, c.span.ensures.at, c.span.ensures.len, c.stream.ensures.bytes, c.stream.ensures.gap, c.from-2.ensures, c.kind_number.ensures, c.from.ensures, p.ensures.0)
           (legacy-is a.d.now a.t.now a.v a.j m.result.symbol m.result.section m.ensures.0 m.ensures.1 c.requires.1);
-      name-short = len.ensures.1;
+      name-short = omega (arith, m.type_inv);
       own-short = omega arith;
     }

@@ -12,12 +12,12 @@ use Rattle.rows_numbers.proofs.fill_rows.Goals as goal
 pub loop-i-init : goal.loop-i-init
 loop-i-init c =
     let a = c.args in
-    (omega arith, refl, sym (rest-none a.d.now a.t.now a.symbols.now a.rows), sym (stored-none a.d.now a.t.now a.symbols.now a.rows a.numbers.now))
+    (refl, sym (rest-none a.d.now a.t.now a.symbols.now a.rows), sym (stored-none a.d.now a.t.now a.symbols.now a.rows a.numbers.now))
 
 pub next_row-m-requires : goal.next_row-m-requires
 next_row-m-requires c =
     let a = c.args in
-    rw c.loop-i.invariant.2 (readable-rest a.d.now a.t.now a.symbols.now 0 a.rows c.loop-i.i c.requires)
+    rw c.loop-i.invariant.1 (readable-rest a.d.now a.t.now a.symbols.now 0 a.rows c.loop-i.i c.requires)
 
 pub loop-i-preserved : goal.loop-i-preserved
 loop-i-preserved c =
@@ -26,17 +26,16 @@ loop-i-preserved c =
     let t = c.loop-i-test.true in
     let a = c.args in
     let k : ℕ = c.loop-i.i in
-    let e : m.result ≡ made_at a.d.now a.t.now a.symbols.now a.rows k = m.ensures ∙ ap (made_of a.d.now a.t.now a.symbols.now k) c.loop-i.invariant.2 in (
-      omega (arith, t),
-      f.auto.numbers ∙ c.loop-i.invariant.1,
+    let e : m.result ≡ made_at a.d.now a.t.now a.symbols.now a.rows k = m.ensures ∙ ap (made_of a.d.now a.t.now a.symbols.now k) c.loop-i.invariant.1 in (
+      f.auto.numbers ∙ c.loop-i.invariant.0,
       ap (λ x. x.rest) e ∙ rest-next a.d.now a.t.now a.symbols.now a.rows k,
-      f.ensures ∙ stored_next a.d.now a.t.now a.symbols.now a.rows a.numbers.now k c.loop-i.numbers m.result e c.loop-i.invariant.3 (omega (arith, t)),
+      f.ensures ∙ stored_next a.d.now a.t.now a.symbols.now a.rows a.numbers.now k c.loop-i.numbers m.result e c.loop-i.invariant.2 (omega (arith, t)),
     )
 
 pub returns : goal.returns
 returns c =
-    let f = c.zero64 in
+    let f = c.fill in
     let a = c.args in
     let e : c.loop-i.i ≡ rows_in (length a.numbers.now) = omega arith in
-    stored-all a.d.now a.t.now a.symbols.now a.rows a.numbers.now (rows_in (length a.numbers.now)) c.loop-i.numbers f.new.t
-    (omega arith) (c.loop-i.invariant.3 ∙ ap (numbers_stored a.d.now a.t.now a.symbols.now a.rows a.numbers.now) e) f.ensures
+    stored-all a.d.now a.t.now a.symbols.now a.rows a.numbers.now (rows_in (length a.numbers.now)) c.loop-i.numbers f.new.self
+    (omega arith) (c.loop-i.invariant.2 ∙ ap (numbers_stored a.d.now a.t.now a.symbols.now a.rows a.numbers.now) e) (f.ensures.after (λ y e. e))

@@ -1,5 +1,4 @@
 use mathlib.Core.Path.{◌≡◌}
-use Prim.Native.Nat.{◌-◌, ◌≤◌}
 use lib.ListN.{length}
 use Rattle.rows_functions.specs.Stored.{rest_made}
 use Rattle.rows_numbers.specs.Flat.{numbers_stored}
@@ -7,7 +6,4 @@ use Rattle.rows_numbers.proofs.fill_rows.Given as goal
 
 abbrev pub invariant-loop-i : goal.invariant-loop-i
 invariant-loop-i l =
-    (l.i ≤ l.n) × (length l.numbers ≡ length l.initial.numbers) × (l.at ≡ rest_made l.d l.t l.symbols 0 l.initial.at l.i) × (l.numbers ≡ numbers_stored l.d l.t l.symbols l.initial.at l.initial.numbers l.i)
-
-abbrev pub decreases-loop-i : goal.decreases-loop-i
-decreases-loop-i l = l.n - l.i
+    (length l.numbers ≡ length l.initial.numbers) × (l.at ≡ rest_made l.d l.t l.symbols 0 l.initial.at l.i) × (l.numbers ≡ numbers_stored l.d l.t l.symbols l.initial.at l.initial.numbers l.i)

@@ -3,4 +3,4 @@ use mathlib.Core.Path.{◌∙◌}
 use Rattle.rows_numbers.proofs.store_row.Goals as goal
 
 pub returns : goal.returns
-returns c = c.put7.ensures ∙ rw c.wide64-section.ensures.0
+returns c = c.put_row.ensures ∙ rw c.from.ensures

@@ -11,25 +11,23 @@ use Rattle.rows_programs.proofs.put_program_rows.Goals as goal
 
 pub loop-k-init : goal.loop-k-init
 unfolding each placed
-loop-k-init c = (omega arith, refl, omega arith, sym (add-zero c.args.at), refl)
+loop-k-init c = (refl, omega arith, sym (add-zero c.args.at), refl)
 
 pub loop-k-preserved : goal.loop-k-preserved
 loop-k-preserved c =
     let a = c.args in
-    let t = c.loop-k-test.true in
     let r = c.program_row-r in
     let k : ℕ = c.loop-k.k in
-    let m : k < length a.numbers.now = omega (arith, t, c.requires) in (
-      omega (arith, t),
-      c.put7.auto.t ∙ c.loop-k.invariant.1,
-      omega (arith, c.loop-k.invariant.2, r.ensures.1),
-      place-next a.d.now a.t.now a.v a.numbers.now a.at k c.loop-k.place r.result r.ensures.0 c.loop-k.invariant.3 m,
-      c.put7.ensures
-          ∙ rows_more a.d.now a.t.now a.v a.numbers.now a.at k c.loop-k.place r.result r.ensures.0 c.loop-k.invariant.3 a.out.now c.loop-k.out
-          m (omega (arith, t, c.requires)) c.loop-k.invariant.4,
+    let m : k < length a.numbers.now = omega (arith, c.loop-k-test.true, c.requires) in (
+      c.put_row.auto.t ∙ c.loop-k.invariant.0,
+      omega (arith, c.loop-k.invariant.1, r.ensures.1),
+      place-next a.d.now a.t.now a.v a.numbers.now a.at k c.loop-k.place r.result r.ensures.0 c.loop-k.invariant.2 m,
+      c.put_row.ensures
+          ∙ rows_more a.d.now a.t.now a.v a.numbers.now a.at k c.loop-k.place r.result r.ensures.0 c.loop-k.invariant.2 a.out.now c.loop-k.out
+          m (omega (arith, c.loop-k-test.true, c.requires)) c.loop-k.invariant.3,
     )
 
 pub returns : goal.returns
 returns c =
     let e : c.loop-k.k ≡ c.args.n = omega arith in
-    c.loop-k.invariant.4 ∙ rw e
+    c.loop-k.invariant.3 ∙ rw e

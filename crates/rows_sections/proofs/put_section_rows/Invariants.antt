@@ -1,6 +1,6 @@
 use mathlib.Core.Path.{◌≡◌}
 use mathlib.Core.List.{◌++◌}
-use Prim.Native.Nat.{◌+◌, ◌-◌, ◌*◌, ◌≤◌}
+use Prim.Native.Nat.{◌+◌, ◌*◌, ◌≤◌}
 use lib.ListN.{length, take, drop}
 use Rattle.model.specs.Bytes.{each}
 use Rattle.rows_sections.specs.Rows.{section_rows, section_name_in}
@@ -8,9 +8,6 @@ use Rattle.rows_sections.proofs.put_section_rows.Given as goal
 
 abbrev pub invariant-loop-k : goal.invariant-loop-k
 invariant-loop-k l =
-    (l.k ≤ l.n) × (length l.out ≡ length l.initial.out) × (l.place ≤ l.at + l.k * 4294967296)
+    (length l.out ≡ length l.initial.out) × (l.place ≤ l.at + l.k * 4294967296)
     × (l.place ≡ l.at + length (each (section_name_in l.d l.t l.v) (take l.k l.numbers)))
     × (l.out ≡ section_rows l.d l.t l.v l.at (take l.k l.numbers) ++ drop (l.k * 4) l.initial.out)
-
-abbrev pub decreases-loop-k : goal.decreases-loop-k
-decreases-loop-k l = l.n - l.k

@@ -1,34 +1,21 @@
 -- `stream::copy_plain` meets its contract: bytes inside d are copied at once, and else one by one: those copied stand in front of what t had.
-use mathlib.Core.Path.{◌≡◌, refl, ◌∙◌}
-use mathlib.Core.List.{append-nil}
-use lib.ListN.{length, length-take, length-drop, length-set}
-use lib.Seq.{drop-length}
-use Rattle.stream.specs.Stream.{bytes_at}
-use Rattle.stream.specs.Laws.{copied_more, copied-whole}
-use borrow.Author.Rules.{rules}
-use native.Mathlib.Omega.{arith}
+use Rattle.std.proofs.Common.{◌≡◌, ℕ, ◌+◌, ◌-◌, get_or, sym, ap, ◌∙◌, arith, length}
+use Rattle.std.proofs.lemmas.Grind.{common_steps}
+use Rattle.stream.specs.Stream.{place, byte_at}
+use Rattle.stream.specs.Laws.{copied_more, bytes-plain}
 use Rattle.stream.proofs.copy_plain.Goals as goal
-
-pub copy8-requires : goal.copy8-requires
-copy8-requires c = simp (length-take, length-drop) (omega arith)
 
 pub returns-then-e-d : goal.returns-then-e-d
 returns-then-e-d c =
     let a = c.args in
-    c.copy8.ensures ∙ copied-whole a.d.now a.i a.t.now (omega arith)
-
-pub loop-k-init : goal.loop-k-init
-unfolding bytes_at
-loop-k-init c = (search rules, refl, refl)
+    let e : a.i + length a.t.now - a.i ≡ length a.t.now = omega arith in
+    c.copy_from_slice.ensures.after ∙ rw e (sym (bytes-plain a.d.now a.i (length a.t.now) c.if-e-d.true))
 
 pub loop-k-preserved : goal.loop-k-preserved
+unfolding byte_at
 loop-k-preserved c =
     let a = c.args in
-    let v = c.loop-k.invariant in
-    (omega arith, rw length-set v.1, rw (v.2, c.byte_at.ensures) (copied_more a.d.now 0 a.i c.loop-k.k a.t.now (omega arith)))
-
-pub returns : goal.returns
-returns c =
-    let t₀ = c.args.t.now in
-    let e : c.loop-k.k ≡ length t₀ = omega arith in
-    c.loop-k.invariant.2 ∙ rw (e, drop-length, append-nil)
+    let p = a.i + c.loop-k.k in
+    let z : place 0 p ≡ p = omega arith in
+    let e : c.unwrap_or.result ≡ get_or a.d.now p 0 = grind (arith, common_steps) in
+    rw (c.loop-k.invariant, e ∙ sym (ap (λ (j : ℕ). get_or a.d.now j 0) z)) (copied_more a.d.now 0 a.i c.loop-k.k a.t.now c.loop-k-test.true)

@@ -1,9 +1,9 @@
--- `stream::eight` meets its contract, by the law of eight bytes that stand together.
-use native.Mathlib.Omega.{arith}
-use Rattle.stream.specs.Fields.{part-eight}
+-- `stream::eight` meets its contract: std's number of the bytes is that of the model.
+use Rattle.std.specs.Int.{w64}
+use Rattle.std.proofs.Common.{ap, ◌∙◌, rules}
+use Rattle.model.specs.Bytes.{little}
+use Rattle.stream.specs.Fields.{le-little}
 use Rattle.stream.proofs.eight.Goals as goal
 
 pub returns : goal.returns
-returns c =
-    let a = c.args in
-    omega (arith, part-eight a.d.now a.i (omega arith))
+returns c = c.from_le_bytes.ensures ∙ le-little w64 _ (search rules) ∙ ap little c.array.ensures

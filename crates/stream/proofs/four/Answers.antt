@@ -1,10 +1,9 @@
--- `stream::four` meets its contract, by the law of four bytes that stand together.
-use mathlib.Core.Path.{sym, ◌∙◌}
-use native.Mathlib.Omega.{arith}
-use Rattle.stream.specs.Fields.{part-four}
+-- `stream::four` meets its contract: std's number of the bytes is that of the model.
+use Rattle.std.specs.Int.{w32}
+use Rattle.std.proofs.Common.{ap, ◌∙◌, rules}
+use Rattle.model.specs.Bytes.{little}
+use Rattle.stream.specs.Fields.{le-little}
 use Rattle.stream.proofs.four.Goals as goal
 
 pub returns : goal.returns
-returns c =
-    let a = c.args in
-    c.from_le_bytes.ensures ∙ sym (part-four a.d.now a.i (omega arith))
+returns c = c.from_le_bytes.ensures ∙ le-little w32 _ (search rules) ∙ ap little c.array.ensures

@@ -1,5 +1,4 @@
-use Prim.Native.Nat.{◌-◌, ◌<◌, ◌≤◌}
-use lib.ListN.{length}
+use Prim.Native.Nat.{◌<◌}
 use lib.Seq.{slice}
 use Rattle.catalogue_laws.specs.SectionsPrograms.{All}
 use Rattle.symbol_groups.specs.Cut.{raw}
@@ -7,7 +6,4 @@ use Rattle.symbol_groups.proofs.group_start.Given as goal
 
 abbrev pub invariant-loop-at : goal.invariant-loop-at
 invariant-loop-at l =
-    (l.from ≤ l.at) × (l.at ≤ length l.symbols) × All (λ j. raw l.d l.t l.v l.symbols l.from l.k.0 j < l.k.0) (slice l.from l.at l.symbols)
-
-abbrev pub decreases-loop-at : goal.decreases-loop-at
-decreases-loop-at l = length l.symbols - l.at
+    All (λ j. raw l.d l.t l.v l.symbols l.from l.k.0 j < l.k.0) (slice l.from l.at l.symbols)

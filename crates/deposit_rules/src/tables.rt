@@ -1,0 +1,17 @@
+// The tables of a deposit, which lie inside it.
+ghost use Rattle.std.specs.Prelude.{◌≤◌, length};
+ghost use Rattle.model.specs.Deposit.{end_of};
+ghost use Rattle.stream.specs.Stream.{place};
+ghost use Rattle.deposit_rules.specs.Rules.{Clean};
+
+use model::Head;
+
+// A deposit's blocks and head, and whether each byte of the table of names is known to be one that may stand in a name: then no name has to be walked by itself.
+#[derive(Clone, Copy)]
+pub struct Tables<'a> {
+    pub bytes: &'a [u8],
+    pub head: Head,
+    pub clean: bool,
+    ghost placed: { place 4 (end_of head) ≤ length bytes.now },
+    ghost known: { Clean bytes.now head clean },
+}

@@ -1,8 +1,0 @@
--- `listing_elf::room::text` meets its contract by the law of `replicate`: to count the zeros would cost by their number.
-use mathlib.Core.Path.{sym}
-use Prim.Native.Nat.{ℕ}
-use lib.ListN.{length-replicate}
-use Rattle.listing_elf.proofs.room.text.Goals as goal
-
-pub returns : goal.returns
-returns c = sym (length-replicate {0} {A = ℕ} 1867776 0)

@@ -1,9 +1,0 @@
--- `listing_text::put_function` meets its contract: the line's pieces, one behind the other.
-use Rattle.listing_text.specs.Lines.{function-text}
-use Rattle.listing_text.specs.Laid.{then, same_text}
-use Rattle.listing_text.proofs.put_function.Goals as goal
-
-pub returns : goal.returns
-returns c =
-    let a = c.args in
-    same_text (function-text a.bytes.now a.functions.now a.p) (then c.requires.0 (then c.requires.0 (then c.requires.0 (then c.requires.0 (then c.requires.0 (then c.requires.0 c.put-o.ensures c.put_number-o.ensures) c.put_number-o-2.ensures) c.put_number-o-3.ensures) c.put-o-2.ensures) c.put_part-o.ensures) c.put.ensures)

@@ -1,9 +1,0 @@
--- `named` meets its contract: by whether the words are the same.
-use mathlib.Core.Path.{sym, ◌∙◌}
-use Rattle.program_section.proofs.named.Goals as goal
-
-pub returns-then-same : goal.returns-then-same
-returns-then-same c = rw (sym c.same.ensures ∙ c.if-same.true)
-
-pub returns-else-same : goal.returns-else-same
-returns-else-same c = rw (sym c.same.ensures ∙ c.if-same.false)
