@@ -10,7 +10,7 @@ ghost use Rattle.load_file.specs.Files.{Checks};
 use elf::index_length;
 use elf_layout::Layout;
 use elf_tables::check;
-use load_file::{load_512, load_16384, load_143360};
+use load_file::load_file;
 use model::{Function, Refusal, Summary};
 
 fn is_small(checked: Result<Layout, Refusal>) -> bool
@@ -48,7 +48,7 @@ fn load_more(
         (lent sections.old programs.old functions.old maps.old relocations.old bytes.old)) }
 {
     if tries == 0 {
-        load_143360(
+        load_file::<143360>(
             d,
             checked,
             entries,
@@ -62,7 +62,7 @@ fn load_more(
             bytes,
         )
     } else if is_medium(checked) {
-        load_16384(
+        load_file::<16384>(
             d,
             checked,
             entries,
@@ -114,7 +114,7 @@ fn load_checked(
         (lent sections.old programs.old functions.old maps.old relocations.old bytes.old)) }
 {
     if is_small(checked) {
-        load_512(
+        load_file::<512>(
             d,
             checked,
             entries,

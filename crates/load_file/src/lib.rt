@@ -12,8 +12,8 @@ use elf_layout::Layout;
 use load_opened::load_opened;
 use model::{Function, Refusal, Summary};
 
-// For an index of at most 512 numbers.
-pub fn load_512(
+// Its index has N numbers, which are enough for the file.
+pub fn load_file<const N: usize>(
     d: &[u8],
     checked: Result<Layout, Refusal>,
     entries: &[u64],
@@ -26,89 +26,13 @@ pub fn load_512(
     relocations: &mut [u64],
     bytes: &mut [u8],
 ) -> Result<Summary, Refusal>
-    requires { Checks d.now checked × (index_length checked ≤ 512) }
+    requires { Checks d.now checked × (index_length checked ≤ N) × (N ≤ 143360) }
     ensures { outcome result (lent sections.new programs.new functions.new maps.new relocations.new bytes.new)
         ≡ load_elf_of d.now entries.now patches.now rewrite
         (room_in
         (lent sections.old programs.old functions.old maps.old relocations.old bytes.old)) }
 {
-    let mut t = [0u32; 512];
-    let opened = open(d, checked, &mut t);
-    load_opened(
-        d,
-        &t,
-        opened,
-        entries,
-        patches,
-        rewrite,
-        sections,
-        programs,
-        functions,
-        maps,
-        relocations,
-        bytes,
-    )
-}
-
-// For an index of at most 16,384 numbers.
-pub fn load_16384(
-    d: &[u8],
-    checked: Result<Layout, Refusal>,
-    entries: &[u64],
-    patches: &[u8],
-    rewrite: bool,
-    sections: &mut [u64],
-    programs: &mut [u64],
-    functions: &mut [Function],
-    maps: &mut [u64],
-    relocations: &mut [u64],
-    bytes: &mut [u8],
-) -> Result<Summary, Refusal>
-    requires { Checks d.now checked × (index_length checked ≤ 16384) }
-    ensures { outcome result (lent sections.new programs.new functions.new maps.new relocations.new bytes.new)
-        ≡ load_elf_of d.now entries.now patches.now rewrite
-        (room_in
-        (lent sections.old programs.old functions.old maps.old relocations.old bytes.old)) }
-{
-    let mut t = [0u32; 16384];
-    let opened = open(d, checked, &mut t);
-    load_opened(
-        d,
-        &t,
-        opened,
-        entries,
-        patches,
-        rewrite,
-        sections,
-        programs,
-        functions,
-        maps,
-        relocations,
-        bytes,
-    )
-}
-
-// For the index of any file that can be read.
-pub fn load_143360(
-    d: &[u8],
-    checked: Result<Layout, Refusal>,
-    entries: &[u64],
-    patches: &[u8],
-    rewrite: bool,
-    sections: &mut [u64],
-    programs: &mut [u64],
-    functions: &mut [Function],
-    maps: &mut [u64],
-    relocations: &mut [u64],
-    bytes: &mut [u8],
-) -> Result<Summary, Refusal>
-    requires { Checks d.now checked }
-    ensures { outcome result (lent sections.new programs.new functions.new maps.new relocations.new bytes.new)
-        ≡ load_elf_of d.now entries.now patches.now rewrite
-        (room_in
-        (lent sections.old programs.old functions.old maps.old relocations.old bytes.old)) }
-{
-    let mut t = [0u32; 143360];
+    let mut t = [0u32; N];
     let opened = open(d, checked, &mut t);
     load_opened(
         d,

@@ -11,8 +11,8 @@ use model::{Function, Refusal, Summary};
 use object_view::View;
 use rows_functions::fill;
 
-// For at most 64 symbols.
-pub fn load_64(
+// Its array has N numbers, which are enough for the object's symbols.
+pub fn load_functions<const N: usize>(
     d: &[u8],
     t: &[u32],
     opened: Result<View, Refusal>,
@@ -26,98 +26,14 @@ pub fn load_64(
     relocations: &mut [u64],
     bytes: &mut [u8],
 ) -> Result<Summary, Refusal>
-    requires { Open d.now t.now opened × (symbol_count opened ≤ 64) }
+    requires { Open d.now t.now opened × (symbol_count opened ≤ N) × (N ≤ 65536) }
     ensures { outcome result (lent sections.new programs.new functions.new maps.new relocations.new bytes.new)
         ≡ outcome_in (room_in
         (lent sections.old programs.old functions.old maps.old relocations.old bytes.old))
         (verdict_in d.now t.now opened entries.now patches.now rewrite) }
 {
     let room = functions.len();
-    let mut symbols = [0u32; 64];
-    let loaded = load_core(
-        d,
-        t,
-        opened,
-        entries,
-        patches,
-        rewrite,
-        room,
-        sections,
-        programs,
-        maps,
-        relocations,
-        bytes,
-        &mut symbols,
-    );
-    fill(functions, d, t, &symbols, loaded.rows);
-    loaded.answer
-}
-
-// For at most 2,048 symbols.
-pub fn load_2048(
-    d: &[u8],
-    t: &[u32],
-    opened: Result<View, Refusal>,
-    entries: &[u64],
-    patches: &[u8],
-    rewrite: bool,
-    sections: &mut [u64],
-    programs: &mut [u64],
-    functions: &mut [Function],
-    maps: &mut [u64],
-    relocations: &mut [u64],
-    bytes: &mut [u8],
-) -> Result<Summary, Refusal>
-    requires { Open d.now t.now opened × (symbol_count opened ≤ 2048) }
-    ensures { outcome result (lent sections.new programs.new functions.new maps.new relocations.new bytes.new)
-        ≡ outcome_in (room_in
-        (lent sections.old programs.old functions.old maps.old relocations.old bytes.old))
-        (verdict_in d.now t.now opened entries.now patches.now rewrite) }
-{
-    let room = functions.len();
-    let mut symbols = [0u32; 2048];
-    let loaded = load_core(
-        d,
-        t,
-        opened,
-        entries,
-        patches,
-        rewrite,
-        room,
-        sections,
-        programs,
-        maps,
-        relocations,
-        bytes,
-        &mut symbols,
-    );
-    fill(functions, d, t, &symbols, loaded.rows);
-    loaded.answer
-}
-
-// For as many symbols as an opened object may have.
-pub fn load_65536(
-    d: &[u8],
-    t: &[u32],
-    opened: Result<View, Refusal>,
-    entries: &[u64],
-    patches: &[u8],
-    rewrite: bool,
-    sections: &mut [u64],
-    programs: &mut [u64],
-    functions: &mut [Function],
-    maps: &mut [u64],
-    relocations: &mut [u64],
-    bytes: &mut [u8],
-) -> Result<Summary, Refusal>
-    requires { Open d.now t.now opened }
-    ensures { outcome result (lent sections.new programs.new functions.new maps.new relocations.new bytes.new)
-        ≡ outcome_in (room_in
-        (lent sections.old programs.old functions.old maps.old relocations.old bytes.old))
-        (verdict_in d.now t.now opened entries.now patches.now rewrite) }
-{
-    let room = functions.len();
-    let mut symbols = [0u32; 65536];
+    let mut symbols = [0u32; N];
     let loaded = load_core(
         d,
         t,

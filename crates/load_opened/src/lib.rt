@@ -5,7 +5,7 @@ ghost use Rattle.std.specs.Prelude.{◌≡◌, leb};
 ghost use Rattle.model.specs.Lent.{lent, room_in, outcome, outcome_in};
 ghost use Rattle.load_object.specs.Done.{Open, symbol_count, verdict_in};
 
-use load_functions::{load_64, load_2048, load_65536};
+use load_functions::load_functions;
 use model::{Function, Refusal, Summary};
 use object_view::View;
 
@@ -51,7 +51,7 @@ fn load_more(
         (verdict_in d.now t.now opened entries.now patches.now rewrite) }
 {
     if tries == 0 {
-        load_65536(
+        load_functions::<65536>(
             d,
             t,
             opened,
@@ -66,7 +66,7 @@ fn load_more(
             bytes,
         )
     } else if is_medium(opened) {
-        load_2048(
+        load_functions::<2048>(
             d,
             t,
             opened,
@@ -121,7 +121,7 @@ pub fn load_opened(
         (verdict_in d.now t.now opened entries.now patches.now rewrite) }
 {
     if is_small(opened) {
-        load_64(
+        load_functions::<64>(
             d,
             t,
             opened,

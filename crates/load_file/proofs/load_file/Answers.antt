@@ -1,14 +1,14 @@
--- `load_file::load_512` meets its contract: what opening a file answers can be loaded, and its load is the file's.
+-- `load_file::load_file` meets its contract: what opening a file answers can be loaded, and its load is the file's.
 use Rattle.std.proofs.Common.{◌∙◌}
 use Rattle.model.specs.Lent.{lent, room_in}
 use Rattle.load_file.specs.Files.{file-open, file-outcome}
-use Rattle.load_file.proofs.load_512.Goals as goal
+use Rattle.load_file.proofs.load_file.Goals as goal
 
 pub load_opened-requires : goal.load_opened-requires
-load_opened-requires c = file-open c.args.d.now c.open-opened.new.t c.open-opened.result c.open-opened.ensures
+load_opened-requires g c = file-open c.args.d.now c.open-opened.new.t c.open-opened.result c.open-opened.ensures
 
 pub returns : goal.returns
-returns c =
+returns g c =
     let a = c.args in
     let k = c.open-opened in
     c.load_opened.ensures
