@@ -1,5 +1,6 @@
 -- 'Why a deposit goes back', numbers 1 to 3: what opening a deposit answers, and the same by places.
 use Rattle.object_view.specs.declared.View.{View}
+use Rattle.object_view.specs.Refused.{without_place}
 use Rattle.deposit_rules.specs.declared.RecordFault.{RecordFault}
 use Rattle.std.specs.Prelude.{⊤, ◌≡◌, refl, Bool, true, false, cond, ◌&&◌, not, List, ℕ, ◌+◌, ◌*◌, ◌/◌, ◌%◌, ◌≤◌, eqb, leb, ltb, length, Err, Ok, Result}
 use Rattle.std.proofs.Common.{ap, ◌∙◌, arith, leb-true, eqb-true}
@@ -8,17 +9,12 @@ use Rattle.std.proofs.lemmas.Bool.{eqb-false, not-true}
 use Rattle.model.specs.declared.Head.{Head}
 use Rattle.model.specs.declared.Refusal.{Refusal}
 use Rattle.model.specs.Bytes.{maybe, or_else}
-use Rattle.model.specs.Refusals.{no_section, no_symbol}
 use Rattle.model.specs.Deposit.{most_bytes, checks_ok, frame_ok, stream_of, head_of, parts_from, parts_of, end_of, head_ok, length_ok, records_ok, stream_rules, stream_ok, object_of, has_btf, of_deposit, deposit_refusal}
 use Rattle.stream.specs.Framed.{length-stream}
 use Rattle.records.specs.Records.{head_at}
 use Rattle.records.specs.View.{deposit_view}
 use Rattle.deposit_rules.specs.Parts.{head-stream}
 use Rattle.deposit_rules.specs.Rules.{sections_ok, symbols_ok, relocations_ok, rest_ok, records_ok_at, some_btf, records-ok, btf-is}
-
--- '1 to 3 name 0 0 0.'
-abbrev pub without_place : ℕ → Refusal
-without_place n = record { number = n; section = no_section; symbol = no_symbol; entry = 0 }
 
 -- the view of a deposit that passes, or why it goes back
 unfoldable pub opened_of : List ℕ → Result View Refusal

@@ -2,52 +2,49 @@
 #![tactic(auto)]
 
 ghost use Rattle.std.specs.Prelude.{◌≡◌};
-ghost use Rattle.deposit.specs.Open.{without_place, checked_stream, opened_of};
+ghost use Rattle.deposit.specs.Open.{checked_stream};
+ghost use Rattle.deposit.specs.Opened.{Opened};
 
 use deposit_frame::frame_ok;
 use deposit_rules::{RecordFault, Tables, head_ok, relocations_ok, rest_ok};
-use model::{Head, Refusal, SectionIndex, SymbolIndex};
-use object_view::View;
-use records::{deposit_view, end_of, head};
+use model::Refusal;
+use object_view::without_place;
+use records::{Deposit, Object, Records, deposit_view, end_of};
 
 #[tactic(auto, using(std::proofs::lemmas::Bool::Decides::nat_tests), unfolding(crate::specs::Open::checked_stream, crate::specs::Open::stream_ok_at, deposit_rules::specs::Rules::records_ok_at, deposit_rules::specs::Checked::checked_sections))]
-fn check_stream(d: &[u8], h: Head) -> Result<(), RecordFault>
-    ensures { result ≡ checked_stream d.now h }
+fn check_stream(deposit: Deposit) -> Result<(), RecordFault>
+    ensures { result ≡ checked_stream deposit.entry.bytes.now deposit.entry.head }
 {
     // No block is missing, and none is left over.
-    let end = end_of(h);
-    let len = d.len() / 512 * 508;
-    if !head_ok(h) || end > len || len >= end + 508 || !rest_ok(d, h) {
+    let end = end_of(deposit.head);
+    let len = deposit.bytes.len() / 512 * 508;
+    if !head_ok(deposit.head) || end > len || len >= end + 508 || !rest_ok(deposit) {
         return Err(RecordFault::Broken);
     }
-    let tables = Tables::new(d, h);
-    if !tables.symbols_ok() || !relocations_ok(d, h) {
+    let tables = Tables::new(deposit);
+    if !tables.symbols_ok() || !relocations_ok(deposit) {
         return Err(RecordFault::Broken);
     }
     tables.check_sections()
 }
 
-fn refusal(number: u32) -> Refusal
-    ensures { result ≡ without_place number }
-{
-    Refusal {
-        number,
-        section: SectionIndex(0),
-        symbol: SymbolIndex(0),
-        entry: 0,
-    }
-}
-
-pub fn open(d: &[u8]) -> Result<View, Refusal>
-    ensures { result ≡ opened_of d.now }
+pub fn open(d: &[u8]) -> Result<Object<'_>, Refusal>
+    ensures { Opened d.now result }
 {
     if !frame_ok(d) {
-        return Err(refusal(1));
+        return Err(without_place(1));
     }
-    let h = head(d);
-    match check_stream(d, h) {
-        Ok(()) => Ok(deposit_view(h)),
-        Err(RecordFault::Broken) => Err(refusal(2)),
-        Err(RecordFault::Btf) => Err(refusal(3)),
+    let deposit = Deposit::new(d);
+    match check_stream(deposit) {
+        Ok(()) => {
+            let records = Records {
+                bytes: d,
+                index: &[],
+                view: deposit_view(deposit.head),
+            };
+            Ok(Object { records })
+        }
+        Err(RecordFault::Broken) => Err(without_place(2)),
+        Err(RecordFault::Btf) => Err(without_place(3)),
     }
 }

@@ -2,6 +2,5 @@
 pub mod Parts
 pub mod Rules
 pub mod Names
-pub mod Btf
 pub mod Checked
 pub mod Walk

@@ -11,9 +11,8 @@ ghost use Rattle.deposit_rules.specs.Checked.{checked_sections};
 pub mod tables;
 
 use model::{Extent, Head, RelocationRecord, SectionRecord, SymbolRecord};
-use records::{
-    deposit_relocation, deposit_section, deposit_stream, deposit_symbol, end_of, names_at,
-};
+use names::same;
+use records::{Deposit, deposit_stream, end_of, names_at};
 use stream::Span;
 pub use tables::Tables;
 
@@ -57,11 +56,12 @@ fn name_bytes(name: Span) -> bool
 }
 
 // Whether each byte of the table of names may stand in a name.
-pub fn names_ok(d: &[u8], h: Head) -> bool
-    requires { place_of 4 (end_of h) ≤ length d.now }
-    ensures { result ≡ names_ok d.now h }
+pub fn names_ok(deposit: Deposit) -> bool
+    requires { place_of 4 (end_of deposit.head) ≤ length deposit.bytes.now }
+    ensures { result ≡ names_ok deposit.entry.bytes.now deposit.entry.head }
 {
-    name_bytes(deposit_stream(d).span(names_at(h), h.names as usize))
+    let h = deposit.head;
+    name_bytes(deposit_stream(deposit.bytes).span(names_at(h), h.names as usize))
 }
 
 #[tactic(auto, using(std::proofs::lemmas::Bool::Decides::nat_tests), unfolding(model::specs::Deposit::relocation_ok))]
@@ -82,13 +82,14 @@ pub fn head_ok(h: Head) -> bool
         && h.reserved == 0
 }
 
-// `.BTF` as a number.
-const BTF: u32 = 0x4654422E;
-
-fn is_btf(d: &[u8], h: Head, s: SectionRecord) -> bool
-    ensures { result ≡ is_btf d.now h s }
+fn is_btf(deposit: Deposit, s: SectionRecord) -> bool
+    ensures { result ≡ is_btf deposit.entry.bytes.now deposit.entry.head s }
 {
-    s.name.length == 4 && deposit_stream(d).u32_at(names_at(h) + s.name.at as usize) == BTF
+    let at = names_at(deposit.head) + s.name.at as usize;
+    same(
+        deposit_stream(deposit.bytes).span(at, s.name.length as usize),
+        b".BTF",
+    )
 }
 
 fn zeros(b: &[u8]) -> bool
@@ -98,22 +99,24 @@ fn zeros(b: &[u8]) -> bool
 }
 
 // The stream ends in its last block: what is left of that block.
-pub fn rest_ok(d: &[u8], h: Head) -> bool
-    requires { (end_of h ≤ length d.now / 512 * 508) × (length d.now / 512 * 508 < end_of h + 508) }
-    ensures { result ≡ rest_ok d.now h }
+pub fn rest_ok(deposit: Deposit) -> bool
+    requires { (end_of deposit.head ≤ length deposit.bytes.now / 512 * 508)
+        × (length deposit.bytes.now / 512 * 508 < end_of deposit.head + 508) }
+    ensures { result ≡ rest_ok deposit.entry.bytes.now deposit.entry.head }
 {
-    let end = end_of(h);
+    let d = deposit.bytes;
+    let end = end_of(deposit.head);
     let i = deposit_stream(d).place(end);
     let e = i + (d.len() / 512 * 508 - end);
     zeros(&d[i..e])
 }
 
 #[tactic(auto, unfolding(crate::specs::Rules::relocations_ok))]
-pub fn relocations_ok(d: &[u8], h: Head) -> bool
-    ensures { result ≡ relocations_ok d.now h }
+pub fn relocations_ok(deposit: Deposit) -> bool
+    ensures { result ≡ relocations_ok deposit.entry.bytes.now deposit.entry.head }
 {
-    for i in 0..h.relocations {
-        if !relocation_ok(deposit_relocation(d, h, i)) {
+    for i in 0..deposit.head.relocations {
+        if !relocation_ok(deposit.relocation(i)) {
             return false;
         }
     }
@@ -128,45 +131,42 @@ pub enum RecordFault {
 }
 
 impl<'a> Tables<'a> {
-    // The tables of a deposit with this head.
-    pub fn new(d: &'a [u8], h: Head) -> Self
-        requires { place_of 4 (end_of h) ≤ length d.now }
-        ensures bytes { result.bytes.now ≡ d.now }
-        ensures head { result.head ≡ h }
+    pub fn new(deposit: Deposit<'a>) -> Self
+        requires { place_of 4 (end_of deposit.head) ≤ length deposit.bytes.now }
+        ensures { result.deposit ≡ deposit.entry }
     {
         Tables {
-            bytes: d,
-            head: h,
-            clean: names_ok(d, h),
+            deposit,
+            clean: names_ok(deposit),
         }
     }
 
     #[tactic(auto, using(std::proofs::lemmas::Bool::Decides::nat_tests), unfolding(crate::specs::Rules::name_ok_at))]
     fn name_ok(self, e: Extent) -> bool
-        ensures { result ≡ name_ok_at self.entry.bytes.now self.entry.head e }
+        ensures { result ≡ name_ok_at self.entry.deposit.bytes.now self.entry.deposit.head e }
     {
-        let h = self.head;
+        let h = self.deposit.head;
         if e.length > 65535 || !inside(e, h.names) {
             return false;
         }
-        let stream = deposit_stream(self.bytes);
+        let stream = deposit_stream(self.deposit.bytes);
         self.clean || name_bytes(stream.span(names_at(h) + e.at as usize, e.length as usize))
     }
 
     #[tactic(auto, using(std::proofs::lemmas::Bool::Decides::nat_tests), unfolding(crate::specs::Rules::section_ok_at))]
     fn section_ok(self, s: SectionRecord) -> bool
-        ensures { result ≡ section_ok_at self.entry.bytes.now self.entry.head s }
+        ensures { result ≡ section_ok_at self.entry.deposit.bytes.now self.entry.deposit.head s }
     {
         s.mark <= 1
             && self.name_ok(s.name)
             && s.size <= 16777216
-            && inside(s.bytes, self.head.bytes)
-            && inside(s.relocations, self.head.relocations)
+            && inside(s.bytes, self.deposit.head.bytes)
+            && inside(s.relocations, self.deposit.head.relocations)
     }
 
     #[tactic(auto, using(std::proofs::lemmas::Bool::Decides::nat_tests), unfolding(crate::specs::Rules::symbol_ok_at))]
     fn symbol_ok(self, s: SymbolRecord) -> bool
-        ensures { result ≡ symbol_ok_at self.entry.bytes.now self.entry.head s }
+        ensures { result ≡ symbol_ok_at self.entry.deposit.bytes.now self.entry.deposit.head s }
     {
         s.section.0 != 0
             && self.name_ok(s.name)
@@ -177,11 +177,11 @@ impl<'a> Tables<'a> {
 
     #[tactic(auto, unfolding(crate::specs::Rules::symbols_ok))]
     pub fn symbols_ok(self) -> bool
-        ensures { result ≡ symbols_ok self.entry.bytes.now self.entry.head }
+        ensures { result ≡ symbols_ok self.entry.deposit.bytes.now self.entry.deposit.head }
     {
         let mut last = 0;
-        for i in 0..self.head.symbols {
-            let s = deposit_symbol(self.bytes, self.head, i);
+        for i in 0..self.deposit.head.symbols {
+            let s = self.deposit.symbol(i);
             if s.index.0 <= last || !self.symbol_ok(s) {
                 return false;
             }
@@ -192,16 +192,16 @@ impl<'a> Tables<'a> {
 
     #[tactic(auto, unfolding(crate::specs::Rules::sections_ok, crate::specs::Rules::some_btf, crate::specs::Checked::checked_sections))]
     pub fn check_sections(self) -> Result<(), RecordFault>
-        ensures { result ≡ checked_sections self.entry.bytes.now self.entry.head }
+        ensures { result ≡ checked_sections self.entry.deposit.bytes.now self.entry.deposit.head }
     {
         let mut last = 0;
         let mut btf = false;
-        for i in 0..self.head.sections {
-            let s = deposit_section(self.bytes, i);
+        for i in 0..self.deposit.head.sections {
+            let s = self.deposit.section(i);
             if s.index.0 <= last || !self.section_ok(s) {
                 return Err(RecordFault::Broken);
             }
-            btf |= is_btf(self.bytes, self.head, s);
+            btf |= is_btf(self.deposit, s);
             last = s.index.0;
         }
         if btf { Err(RecordFault::Btf) } else { Ok(()) }

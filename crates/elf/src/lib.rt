@@ -3,8 +3,9 @@
 
 ghost use Rattle.std.specs.Prelude.{◌≡◌, ◌+◌, ◌*◌, ◌≤◌, length};
 ghost use Rattle.model.specs.Deposit.{has_btf};
+ghost use Rattle.records.specs.Of.{of};
 ghost use Rattle.object.specs.View.{section_in, object_in};
-ghost use Rattle.elf_layout.specs.Layout.{file_refusal, checked_file};
+ghost use Rattle.elf_layout.specs.Layout.{checked_file};
 ghost use Rattle.elf.specs.Opened.{layout_length, index_length, FileOpened, Passes};
 ghost use Rattle.elf.specs.Index.{relocation_part};
 ghost use Rattle.elf.specs.Asked.{NamesAsk, NamesTold};
@@ -15,42 +16,32 @@ use elf_header::{Headers, Sections};
 use elf_layout::Layout;
 use elf_names::{NamedRecords, StringTable, name_lengths};
 use elf_relocations::place_relocations;
-use model::{Endianness, Refusal, SectionIndex, SymbolIndex};
+use model::{Endianness, Refusal};
 use names::same;
-use object_view::View;
-use records::{Cursor, name, section_name};
+use object_view::{View, without_place};
+use records::{Cursor, Records};
 
 // How many bytes a section header and a symbol have.
 const HEADER_SIZE: usize = 64;
 
 const SYMBOL_SIZE: usize = 24;
 
-fn refusal(number: u32) -> Refusal
-    ensures { result ≡ file_refusal number }
-{
-    Refusal {
-        number,
-        section: SectionIndex(0),
-        symbol: SymbolIndex(0),
-        entry: 0,
-    }
-}
-
 #[tactic(auto, unfolding(object::specs::View::section_from))]
-fn is_btf(d: &[u8], t: &[u32], v: View, i: u32) -> bool
-    ensures { result ≡ named_btf (section_in d.now t.now v i) }
+fn is_btf(records: Records, i: u32) -> bool
+    ensures { result ≡ named_btf (of section_in records.entry i) }
 {
-    same(name(d, v, section_name(d, t, v, i)), b".BTF")
+    same(records.name(records.section_name(i)), b".BTF")
 }
 
 // Tells whether a section is named `.BTF`.
 #[tactic(auto, using(crate::proofs::Rules::walk))]
-fn has_btf(d: &[u8], t: &[u32], v: View) -> bool
-    ensures { result ≡ has_btf (object_in d.now t.now v) }
+fn has_btf(records: Records) -> bool
+    ensures { result ≡ has_btf (of object_in records.entry) }
 {
-    let mut c = Cursor::new(v.sections);
+    let mut c = Cursor::new(records.view.sections);
+    // A search over an opened object's sections goes by the cursor, the form that the design names for it: each step is a value.
     while let Some((i, next)) = c.next() {
-        if is_btf(d, t, v, i) {
+        if is_btf(records, i) {
             return true;
         }
         c = next;
@@ -99,7 +90,7 @@ fn index_names(
     if name_lengths(records, t) {
         Ok(())
     } else {
-        Err(refusal(26))
+        Err(without_place(26))
     }
 }
 
@@ -154,8 +145,13 @@ pub fn open(d: &[u8], checked: Result<Layout, Refusal>, t: &mut [u32]) -> Result
 {
     let l = checked?;
     index(d, l, t)?;
-    if has_btf(d, t, l.view) {
-        return Err(refusal(3));
+    let records = Records {
+        bytes: d,
+        index: t,
+        view: l.view,
+    };
+    if has_btf(records) {
+        return Err(without_place(3));
     }
     Ok(l.view)
 }

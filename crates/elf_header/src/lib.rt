@@ -6,7 +6,7 @@ ghost use Rattle.model.specs.Elf.{file_order, entry_count};
 ghost use Rattle.elf_header.specs.Headers.{header_in, header_field, entries_at, file_header_of, present_sections, first_place, headers_of};
 ghost use Rattle.elf_header.specs.Used.{used_by, entry_size_of};
 
-use elf_records::{eight_in, four_in, two};
+use elf_records::FileBytes;
 use model::Endianness;
 
 // What the file header says: the byte order, and of the section header table its place, how many entries it has, and the number of its string table.
@@ -45,11 +45,11 @@ pub fn file_order(d: &[u8]) -> Endianness
 }
 
 // e_shnum; without a section header table there are no entries.
-fn entries(d: &[u8], order: Endianness, at: u64) -> u32
-    requires { 64 ≤ length d.now }
-    ensures { result ≡ entries_at d.now order at }
+fn entries(file: FileBytes, at: u64) -> u32
+    requires { 64 ≤ length file.bytes.now }
+    ensures { result ≡ entries_at file.entry.bytes.now file.entry.order at }
 {
-    if at == 0 { 0 } else { two(d, order, 60) }
+    if at == 0 { 0 } else { file.two(60) }
 }
 
 #[tactic(auto, unfolding(crate::specs::Headers::file_header_of, model::specs::Elf::file_of))]
@@ -58,12 +58,13 @@ pub fn file_header(d: &[u8]) -> FileHeader
     ensures { result ≡ file_header_of d.now }
 {
     let order = file_order(d);
-    let at = eight_in(d, order, 40);
+    let file = FileBytes { bytes: d, order };
+    let at = file.eight(40);
     FileHeader {
         order,
         at,
-        count: entries(d, order, at),
-        names: two(d, order, 62),
+        count: entries(file, at),
+        names: file.two(62),
     }
 }
 
@@ -121,16 +122,22 @@ impl<'a> Sections<'a> {
         requires { (self.headers.first + 64 * i + 48 ≤ length self.bytes.now) × (at + 4 ≤ 48) }
         ensures { result ≡ header_field self.entry.bytes.now self.entry.headers i at 4 }
     {
-        let h = self.headers;
-        four_in(self.bytes, h.order, h.first + 64 * i as usize + at)
+        let file = FileBytes {
+            bytes: self.bytes,
+            order: self.headers.order,
+        };
+        file.four(self.headers.first + 64 * i as usize + at)
     }
 
     fn eight(self, i: u32, at: usize) -> u64
         requires { (self.headers.first + 64 * i + 48 ≤ length self.bytes.now) × (at + 8 ≤ 48) }
         ensures { result ≡ header_field self.entry.bytes.now self.entry.headers i at 8 }
     {
-        let h = self.headers;
-        eight_in(self.bytes, h.order, h.first + 64 * i as usize + at)
+        let file = FileBytes {
+            bytes: self.bytes,
+            order: self.headers.order,
+        };
+        file.eight(self.headers.first + 64 * i as usize + at)
     }
 
     #[tactic(auto, unfolding(model::specs::Elf::header_of))]

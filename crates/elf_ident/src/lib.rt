@@ -54,10 +54,7 @@ pub fn field_is(d: &[u8], order: Endianness, p: usize, w: usize, x: u8) -> bool
 fn order_mark(order: Endianness) -> u8
     ensures { result ≡ order_mark order }
 {
-    match order {
-        Endianness::Little => 1,
-        Endianness::Big => 2,
-    }
+    order as u8 + 1
 }
 
 // Looks at the first seven bytes, the type, the machine and the size of a section header.

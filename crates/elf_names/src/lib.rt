@@ -8,7 +8,7 @@ ghost use Rattle.elf_names.specs.Lengths.{string_table, strings_ok, string_lengt
 ghost use Rattle.elf_names.specs.Stop.{stop};
 ghost use Rattle.elf_names.specs.Told.{Stopped, MemoHolds, Filled, MeasureTold, SurveyTold};
 
-use elf_records::four_in;
+use elf_records::FileBytes;
 use model::Endianness;
 
 // The length of the longest name.
@@ -176,27 +176,28 @@ impl<'a> NamedRecords<'a> {
             lens.new result }
     {
         for (i, length) in lens.iter_mut().enumerate() {
-            let offset = four_in(self.names.bytes, self.order, self.at + self.width * i);
+            let file = FileBytes {
+                bytes: self.names.bytes,
+                order: self.order,
+            };
+            let offset = file.four(self.at + self.width * i);
             *length = self.names.measure(offset as usize, memo)?;
         }
         Ok(())
     }
 
-    // Does so with a memo. It calls itself with the array, so that the compiler gives the array a frame of its own.
-    fn long_lengths(self, lens: &mut [u32], memo: &mut [u32]) -> bool
-        requires { (self.at + self.width * length lens.old ≤ length self.names.bytes.now)
-            × MemoHolds self.names.bytes.now self.names.start self.names.end memo.old }
+    // Does so with a memo, a number for each 1,024th byte of the longest file. No caller takes it in, so that the array has a frame of its own.
+    // 0 stands for unknown: options would take twice the memory to clear.
+    #[inline(never)]
+    fn long_lengths(self, lens: &mut [u32]) -> bool
+        requires { self.at + self.width * length lens.old ≤ length self.names.bytes.now }
         ensures { let r = self.entry in
             let s = r.names in
             (result ≡ strings_ok r.order s.bytes.now r.at r.width s.start s.end (length lens.old))
             × (result ≡ true → lens.new ≡ string_lengths r.order s.bytes.now r.at r.width s.start s.end (length lens.old)) }
     {
-        if memo.is_empty() {
-            // The array has a number for each 1,024th byte of the longest file. 0 stands for unknown: options would take twice the memory to clear.
-            let mut more = [0u32; 16384];
-            return self.long_lengths(lens, &mut more);
-        }
-        self.survey(lens, memo).is_ok()
+        let mut memo = [0u32; 16384];
+        self.survey(lens, &mut memo).is_ok()
     }
 }
 
@@ -211,6 +212,6 @@ pub fn name_lengths(records: NamedRecords, lens: &mut [u32]) -> bool
     match records.survey(lens, &mut []) {
         Ok(()) => true,
         Err(NameFault::Broken) => false,
-        Err(NameFault::Long) => records.long_lengths(lens, &mut []),
+        Err(NameFault::Long) => records.long_lengths(lens),
     }
 }

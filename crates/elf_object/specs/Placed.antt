@@ -139,20 +139,20 @@ placed-inside f h n i k a l =
 table-near : (n : ℕ) (t : Header) → n ≤ 16777216 → header_ok n t ≡ true → is_relocations t ≡ true → Near t
 table-near n t small ok rel = go (is_type 9 t) (is_type 4 t) (eqb t.size 0) refl refl refl rel
   where
-    go : (a b c : Bool) → is_type 9 t ≡ a → is_type 4 t ≡ b → eqb t.size 0 ≡ c → (a || b) ≡ true → (t.size / cond a 16 24 ≡ 0) ⊎ (t.offset + t.size ≤ 16777216)
-    go true b true p q z r = let e : t.size ≡ 0 = eqb-true _ _ z in inl (omega arith)
-    go true b false p q z r =
+    go : (a b c : Bool) → is_type 9 t ≡ a → is_type 4 t ≡ b → eqb t.size 0 ≡ c → (a || b) ≡ true → 0 < t.size / cond a 16 24 → t.offset + t.size ≤ 16777216
+    go true b true p q z r m = let e : t.size ≡ 0 = eqb-true _ _ z in absurd (omega arith)
+    go true b false p q z r m =
         let k : t.kind ≡ 9 = eqb-true _ _ p in
         let e : t.size ≡ 0 → ⊥ = eqb-false _ _ z in
         let l : t.offset + t.size ≤ n = bytes_inside n t ok (λ x. let no : ⊥ = omega arith in no) (omega arith) in
-        inr (omega arith)
-    go false true true p q z r = let e : t.size ≡ 0 = eqb-true _ _ z in inl (omega arith)
-    go false true false p q z r =
+        omega arith
+    go false true true p q z r m = let e : t.size ≡ 0 = eqb-true _ _ z in absurd (omega arith)
+    go false true false p q z r m =
         let k : t.kind ≡ 4 = eqb-true _ _ q in
         let e : t.size ≡ 0 → ⊥ = eqb-false _ _ z in
         let l : t.offset + t.size ≤ n = bytes_inside n t ok (λ x. let no : ⊥ = omega arith in no) (omega arith) in
-        inr (omega arith)
-    go false false c p q z r = true-not-false (sym r)
+        omega arith
+    go false false c p q z r m = true-not-false (sym r)
 
 module _ (f : List ℕ) (r : TablesRuled f (file_of f)) where
   used-tables-pass : all (reloc_table_ok (tab (header_in f (headers_in f)) (headers_in f).sections)) (used_in f (headers_in f) (table_number (file_of f))) ≡ true

@@ -21,45 +21,97 @@ pub fn index_at(t: &[u32], k: usize) -> u32
     t.get(k).copied().unwrap_or(0)
 }
 
-pub fn two(d: &[u8], order: Endianness, i: usize) -> u32
-    requires { i + 2 ≤ length d.now }
-    ensures { (result ≡ number order (part d.now i 2)) × (result < 65536) }
-{
-    let bytes = [d[i], d[i + 1]];
-    match order {
-        Endianness::Little => u32::from(u16::from_le_bytes(bytes)),
-        Endianness::Big => u32::from(u16::from_be_bytes(bytes)),
-    }
+// A file's bytes, and the byte order of its numbers.
+#[derive(Clone, Copy)]
+pub struct FileBytes<'a> {
+    pub bytes: &'a [u8],
+    pub order: Endianness,
 }
 
-pub fn four_in(d: &[u8], order: Endianness, i: usize) -> u32
-    requires { i + 4 ≤ length d.now }
-    ensures { result ≡ number order (part d.now i 4) }
-{
-    let bytes = [d[i], d[i + 1], d[i + 2], d[i + 3]];
-    match order {
-        Endianness::Little => u32::from_le_bytes(bytes),
-        Endianness::Big => u32::from_be_bytes(bytes),
+// The numbers of two, four and eight bytes differ in their type alone, and a trait over it is longer than they are.
+impl<'a> FileBytes<'a> {
+    pub fn two(self, i: usize) -> u32
+        requires { i + 2 ≤ length self.bytes.now }
+        ensures { (result ≡ number self.entry.order (part self.entry.bytes.now i 2)) × (result < 65536) }
+    {
+        let bytes = [self.bytes[i], self.bytes[i + 1]];
+        match self.order {
+            Endianness::Little => u32::from(u16::from_le_bytes(bytes)),
+            Endianness::Big => u32::from(u16::from_be_bytes(bytes)),
+        }
     }
-}
 
-pub fn eight_in(d: &[u8], order: Endianness, i: usize) -> u64
-    requires { i + 8 ≤ length d.now }
-    ensures { result ≡ number order (part d.now i 8) }
-{
-    let bytes = [
-        d[i],
-        d[i + 1],
-        d[i + 2],
-        d[i + 3],
-        d[i + 4],
-        d[i + 5],
-        d[i + 6],
-        d[i + 7],
-    ];
-    match order {
-        Endianness::Little => u64::from_le_bytes(bytes),
-        Endianness::Big => u64::from_be_bytes(bytes),
+    pub fn four(self, i: usize) -> u32
+        requires { i + 4 ≤ length self.bytes.now }
+        ensures { result ≡ number self.entry.order (part self.entry.bytes.now i 4) }
+    {
+        let bytes = [
+            self.bytes[i],
+            self.bytes[i + 1],
+            self.bytes[i + 2],
+            self.bytes[i + 3],
+        ];
+        match self.order {
+            Endianness::Little => u32::from_le_bytes(bytes),
+            Endianness::Big => u32::from_be_bytes(bytes),
+        }
+    }
+
+    pub fn eight(self, i: usize) -> u64
+        requires { i + 8 ≤ length self.bytes.now }
+        ensures { result ≡ number self.entry.order (part self.entry.bytes.now i 8) }
+    {
+        let bytes = [
+            self.bytes[i],
+            self.bytes[i + 1],
+            self.bytes[i + 2],
+            self.bytes[i + 3],
+            self.bytes[i + 4],
+            self.bytes[i + 5],
+            self.bytes[i + 6],
+            self.bytes[i + 7],
+        ];
+        match self.order {
+            Endianness::Little => u64::from_le_bytes(bytes),
+            Endianness::Big => u64::from_be_bytes(bytes),
+        }
+    }
+
+    // The same, 0 where the end cuts them.
+    #[tactic(auto, using(std::proofs::lemmas::Bool::Decides::nat_tests), unfolding(crate::specs::Elf::field_at))]
+    fn u16_at(self, p: usize) -> u32
+        requires { p < 2 ^ 62 }
+        ensures { result ≡ field_at self.entry.order self.entry.bytes.now p 2 }
+    {
+        if p + 2 <= self.bytes.len() {
+            self.two(p)
+        } else {
+            0
+        }
+    }
+
+    #[tactic(auto, using(std::proofs::lemmas::Bool::Decides::nat_tests), unfolding(crate::specs::Elf::field_at))]
+    fn u32_at(self, p: usize) -> u32
+        requires { p < 2 ^ 62 }
+        ensures { result ≡ field_at self.entry.order self.entry.bytes.now p 4 }
+    {
+        if p + 4 <= self.bytes.len() {
+            self.four(p)
+        } else {
+            0
+        }
+    }
+
+    #[tactic(auto, using(std::proofs::lemmas::Bool::Decides::nat_tests), unfolding(crate::specs::Elf::field_at))]
+    fn u64_at(self, p: usize) -> u64
+        requires { p < 2 ^ 62 }
+        ensures { result ≡ field_at self.entry.order self.entry.bytes.now p 8 }
+    {
+        if p + 8 <= self.bytes.len() {
+            self.eight(p)
+        } else {
+            0
+        }
     }
 }
 
@@ -67,43 +119,6 @@ fn u8_at(d: &[u8], p: usize) -> u8
     ensures { result ≡ get_or d.now p 0 }
 {
     d.get(p).copied().unwrap_or(0)
-}
-
-// The three that follow differ in their type alone, and a trait over it is longer than they are.
-#[tactic(auto, using(std::proofs::lemmas::Bool::Decides::nat_tests), unfolding(crate::specs::Elf::field_at))]
-fn u16_at(d: &[u8], order: Endianness, p: usize) -> u32
-    requires { p < 2 ^ 62 }
-    ensures { result ≡ field_at order d.now p 2 }
-{
-    if p + 2 <= d.len() {
-        two(d, order, p)
-    } else {
-        0
-    }
-}
-
-#[tactic(auto, using(std::proofs::lemmas::Bool::Decides::nat_tests), unfolding(crate::specs::Elf::field_at))]
-fn u32_at(d: &[u8], order: Endianness, p: usize) -> u32
-    requires { p < 2 ^ 62 }
-    ensures { result ≡ field_at order d.now p 4 }
-{
-    if p + 4 <= d.len() {
-        four_in(d, order, p)
-    } else {
-        0
-    }
-}
-
-#[tactic(auto, using(std::proofs::lemmas::Bool::Decides::nat_tests), unfolding(crate::specs::Elf::field_at))]
-fn u64_at(d: &[u8], order: Endianness, p: usize) -> u64
-    requires { p < 2 ^ 62 }
-    ensures { result ≡ field_at order d.now p 8 }
-{
-    if p + 8 <= d.len() {
-        eight_in(d, order, p)
-    } else {
-        0
-    }
 }
 
 // Sums and cuts to 32 bits; of an opened file none is cut.
@@ -151,41 +166,6 @@ pub fn section_index(i: u32) -> SectionIndex
     SectionIndex(sum(i, 1))
 }
 
-#[tactic(auto, unfolding(crate::specs::Elf::section_name_at))]
-pub fn section_name(d: &[u8], t: &[u32], v: View, i: u32) -> Extent
-    ensures { result ≡ section_name_at d.now t.now v i }
-{
-    let p = v.at.sections as usize + 64 * i as usize;
-    Extent {
-        at: sum(v.strings.sections, u32_at(d, v.order, p)),
-        length: index_at(t, i as usize),
-    }
-}
-
-// Section header i + 1.
-#[tactic(auto, unfolding(crate::specs::Elf::elf_section))]
-pub fn section(d: &[u8], t: &[u32], v: View, i: u32) -> SectionRecord
-    ensures { result ≡ elf_section d.now t.now v i }
-{
-    let p = v.at.sections as usize + 64 * i as usize;
-    let sort = u32_at(d, v.order, p + 4);
-    let flags = u64_at(d, v.order, p + 8);
-    let at = u64_at(d, v.order, p + 24);
-    let n = u64_at(d, v.order, p + 32);
-    SectionRecord {
-        index: section_index(i),
-        mark: mark(sort, flags),
-        name: section_name(d, t, v, i),
-        address: u64_at(d, v.order, p + 16),
-        size: n,
-        bytes: data_range(sort, at, n),
-        relocations: Extent {
-            at: index_at(t, v.sections as usize + v.symbols as usize + i as usize),
-            length: index_at(t, 2 * v.sections as usize + v.symbols as usize + i as usize),
-        },
-    }
-}
-
 #[tactic(auto, using(std::proofs::lemmas::Bool::Decides::nat_tests), unfolding(crate::specs::Elf::section_or_none))]
 fn section_or_none(shndx: u32) -> SectionIndex
     ensures { result ≡ section_or_none shndx }
@@ -218,52 +198,6 @@ fn definition(kind: u8, section: SectionIndex) -> u8
     }
 }
 
-#[tactic(auto, unfolding(crate::specs::Elf::symbol_section_at))]
-pub fn symbol_section(d: &[u8], v: View, i: u32) -> SectionIndex
-    ensures { result ≡ symbol_section_at d.now v i }
-{
-    let p = v.at.symbols as usize + 24 * i as usize;
-    section_or_none(u16_at(d, v.order, p + 6))
-}
-
-#[tactic(auto, unfolding(crate::specs::Elf::symbol_name_at))]
-pub fn symbol_name(d: &[u8], t: &[u32], v: View, i: u32) -> Extent
-    ensures { result ≡ symbol_name_at d.now t.now v i }
-{
-    let p = v.at.symbols as usize + 24 * i as usize;
-    Extent {
-        at: sum(v.strings.symbols, u32_at(d, v.order, p)),
-        length: index_at(t, v.sections as usize + i as usize),
-    }
-}
-
-#[tactic(auto, unfolding(crate::specs::Elf::symbol_address_at))]
-pub fn symbol_address(d: &[u8], v: View, i: u32) -> u64
-    ensures { result ≡ symbol_address_at d.now v i }
-{
-    u64_at(d, v.order, v.at.symbols as usize + 24 * i as usize + 8)
-}
-
-// Symbol i + 1 of the symbol table.
-#[tactic(auto, unfolding(crate::specs::Elf::elf_symbol))]
-pub fn symbol(d: &[u8], t: &[u32], v: View, i: u32) -> SymbolRecord
-    ensures { result ≡ elf_symbol d.now t.now v i }
-{
-    let p = v.at.symbols as usize + 24 * i as usize;
-    let section = symbol_section(d, v, i);
-    let kind = kind(u8_at(d, p + 4));
-    SymbolRecord {
-        index: SymbolIndex(sum(i, 1)),
-        section,
-        name: symbol_name(d, t, v, i),
-        address: symbol_address(d, v, i),
-        size: u64_at(d, v.order, p + 16),
-        kind,
-        definition: definition(kind, section),
-        reserved: 0,
-    }
-}
-
 #[tactic(auto, using(std::proofs::lemmas::Bool::Decides::nat_tests), unfolding(crate::specs::Elf::symbol_or_none))]
 fn symbol_or_none(x: u32) -> SymbolIndex
     ensures { result ≡ symbol_or_none x }
@@ -286,50 +220,166 @@ fn width(sort: u32) -> u8
     }
 }
 
-// Where relocation k lies, as the index says.
-fn relocation_at(t: &[u32], v: View, k: u32) -> usize
-    ensures { (result ≡ index_at t.now (3 * v.sections + v.symbols + k)) × (result < 2 ^ 32) }
-{
-    index_at(t, 3 * v.sections as usize + v.symbols as usize + k as usize) as usize
-}
-
-#[tactic(auto, unfolding(crate::specs::Elf::relocation_offset_at))]
-pub fn relocation_offset(d: &[u8], t: &[u32], v: View, k: u32) -> u64
-    ensures { result ≡ relocation_offset_at d.now t.now v k }
-{
-    u64_at(d, v.order, relocation_at(t, v, k))
-}
-
-// The number that holds a relocation's symbol and type.
-fn relocation_info(d: &[u8], t: &[u32], v: View, k: u32) -> u64
-    ensures { result ≡ num d.now v (place_of d.now t.now v k + 8) 8 }
-{
-    u64_at(d, v.order, relocation_at(t, v, k) + 8)
-}
-
 fn target_symbol(info: u64) -> SymbolIndex
     ensures { result ≡ target_of info }
 {
     symbol_or_none((info / 4294967296) as u32)
 }
 
-#[tactic(auto, unfolding(crate::specs::Elf::relocation_symbol_at))]
-pub fn relocation_symbol(d: &[u8], t: &[u32], v: View, k: u32) -> SymbolIndex
-    ensures { result ≡ relocation_symbol_at d.now t.now v k }
-{
-    target_symbol(relocation_info(d, t, v, k))
+// A file's bytes, its index, and how its records lie in them.
+#[derive(Clone, Copy)]
+pub struct FileRecords<'a> {
+    pub bytes: &'a [u8],
+    pub index: &'a [u32],
+    pub view: View,
 }
 
-// The first sixteen bytes of a REL or RELA entry.
-#[tactic(auto, unfolding(crate::specs::Elf::elf_relocation, crate::specs::Elf::relocation_symbol_at))]
-pub fn relocation(d: &[u8], t: &[u32], v: View, k: u32) -> RelocationRecord
-    ensures { result ≡ elf_relocation d.now t.now v k }
-{
-    let info = relocation_info(d, t, v, k);
-    RelocationRecord {
-        offset: relocation_offset(d, t, v, k),
-        symbol: target_symbol(info),
-        size: width(low(info)),
-        reserved: 0,
+impl<'a> FileRecords<'a> {
+    fn file(self) -> FileBytes<'a>
+        ensures bytes { result.bytes.now ≡ self.entry.bytes.now }
+        ensures order { result.order ≡ self.entry.view.order }
+    {
+        FileBytes {
+            bytes: self.bytes,
+            order: self.view.order,
+        }
+    }
+
+    #[tactic(auto, unfolding(crate::specs::Elf::section_name_at))]
+    pub fn section_name(self, i: u32) -> Extent
+        ensures { result ≡ section_name_at self.entry.bytes.now self.entry.index.now self.entry.view i }
+    {
+        let p = self.view.at.sections as usize + 64 * i as usize;
+        Extent {
+            at: sum(self.view.strings.sections, self.file().u32_at(p)),
+            length: index_at(self.index, i as usize),
+        }
+    }
+
+    // Where the relocations of section i lie, as the index says.
+    fn relocations(self, i: u32) -> Extent
+        ensures { (result.at ≡ index_at self.entry.index.now (self.entry.view.sections + self.entry.view.symbols + i))
+            × (result.length ≡ index_at self.entry.index.now (2 * self.entry.view.sections + self.entry.view.symbols + i)) }
+    {
+        let v = self.view;
+        let at = v.sections as usize + v.symbols as usize + i as usize;
+        Extent {
+            at: index_at(self.index, at),
+            length: index_at(self.index, at + v.sections as usize),
+        }
+    }
+
+    // Section header i + 1.
+    #[tactic(auto, unfolding(crate::specs::Elf::elf_section))]
+    pub fn section(self, i: u32) -> SectionRecord
+        ensures { result ≡ elf_section self.entry.bytes.now self.entry.index.now self.entry.view i }
+    {
+        let file = self.file();
+        let p = self.view.at.sections as usize + 64 * i as usize;
+        let sort = file.u32_at(p + 4);
+        let flags = file.u64_at(p + 8);
+        let at = file.u64_at(p + 24);
+        let n = file.u64_at(p + 32);
+        SectionRecord {
+            index: section_index(i),
+            mark: mark(sort, flags),
+            name: self.section_name(i),
+            address: file.u64_at(p + 16),
+            size: n,
+            bytes: data_range(sort, at, n),
+            relocations: self.relocations(i),
+        }
+    }
+
+    #[tactic(auto, unfolding(crate::specs::Elf::symbol_section_at))]
+    pub fn symbol_section(self, i: u32) -> SectionIndex
+        ensures { result ≡ symbol_section_at self.entry.bytes.now self.entry.view i }
+    {
+        let p = self.view.at.symbols as usize + 24 * i as usize;
+        section_or_none(self.file().u16_at(p + 6))
+    }
+
+    #[tactic(auto, unfolding(crate::specs::Elf::symbol_name_at))]
+    pub fn symbol_name(self, i: u32) -> Extent
+        ensures { result ≡ symbol_name_at self.entry.bytes.now self.entry.index.now self.entry.view i }
+    {
+        let p = self.view.at.symbols as usize + 24 * i as usize;
+        Extent {
+            at: sum(self.view.strings.symbols, self.file().u32_at(p)),
+            length: index_at(self.index, self.view.sections as usize + i as usize),
+        }
+    }
+
+    #[tactic(auto, unfolding(crate::specs::Elf::symbol_address_at))]
+    pub fn symbol_address(self, i: u32) -> u64
+        ensures { result ≡ symbol_address_at self.entry.bytes.now self.entry.view i }
+    {
+        self.file()
+            .u64_at(self.view.at.symbols as usize + 24 * i as usize + 8)
+    }
+
+    // Symbol i + 1 of the symbol table.
+    #[tactic(auto, unfolding(crate::specs::Elf::elf_symbol))]
+    pub fn symbol(self, i: u32) -> SymbolRecord
+        ensures { result ≡ elf_symbol self.entry.bytes.now self.entry.index.now self.entry.view i }
+    {
+        let p = self.view.at.symbols as usize + 24 * i as usize;
+        let section = self.symbol_section(i);
+        let kind = kind(u8_at(self.bytes, p + 4));
+        SymbolRecord {
+            index: SymbolIndex(sum(i, 1)),
+            section,
+            name: self.symbol_name(i),
+            address: self.symbol_address(i),
+            size: self.file().u64_at(p + 16),
+            kind,
+            definition: definition(kind, section),
+            reserved: 0,
+        }
+    }
+
+    // Where relocation k lies, as the index says.
+    fn relocation_at(self, k: u32) -> usize
+        ensures { (result ≡ index_at self.entry.index.now (3 * self.entry.view.sections + self.entry.view.symbols + k)) × (result < 2 ^ 32) }
+    {
+        index_at(
+            self.index,
+            3 * self.view.sections as usize + self.view.symbols as usize + k as usize,
+        ) as usize
+    }
+
+    #[tactic(auto, unfolding(crate::specs::Elf::relocation_offset_at))]
+    pub fn relocation_offset(self, k: u32) -> u64
+        ensures { result ≡ relocation_offset_at self.entry.bytes.now self.entry.index.now self.entry.view k }
+    {
+        self.file().u64_at(self.relocation_at(k))
+    }
+
+    // The number that holds a relocation's symbol and type.
+    fn relocation_info(self, k: u32) -> u64
+        ensures { result ≡ num self.entry.bytes.now self.entry.view (place_of self.entry.bytes.now self.entry.index.now self.entry.view k + 8) 8 }
+    {
+        self.file().u64_at(self.relocation_at(k) + 8)
+    }
+
+    #[tactic(auto, unfolding(crate::specs::Elf::relocation_symbol_at))]
+    pub fn relocation_symbol(self, k: u32) -> SymbolIndex
+        ensures { result ≡ relocation_symbol_at self.entry.bytes.now self.entry.index.now self.entry.view k }
+    {
+        target_symbol(self.relocation_info(k))
+    }
+
+    // The first sixteen bytes of a REL or RELA entry.
+    #[tactic(auto, unfolding(crate::specs::Elf::elf_relocation, crate::specs::Elf::relocation_symbol_at))]
+    pub fn relocation(self, k: u32) -> RelocationRecord
+        ensures { result ≡ elf_relocation self.entry.bytes.now self.entry.index.now self.entry.view k }
+    {
+        let info = self.relocation_info(k);
+        RelocationRecord {
+            offset: self.relocation_offset(k),
+            symbol: target_symbol(info),
+            size: width(low(info)),
+            reserved: 0,
+        }
     }
 }

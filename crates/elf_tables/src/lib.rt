@@ -8,7 +8,7 @@ ghost use Rattle.model.specs.Elf.{whole_entries};
 ghost use Rattle.model.specs.ElfRefusals.{entry_ok, header_ok, links_strings, reloc_table_ok};
 ghost use Rattle.elf_header.specs.Headers.{header_in, file_header_of, headers_in};
 ghost use Rattle.elf_header.specs.Used.{used_in};
-ghost use Rattle.elf_layout.specs.Layout.{table_symbols, symbols_start, file_refusal, checked_file};
+ghost use Rattle.elf_layout.specs.Layout.{table_symbols, symbols_start, checked_file};
 ghost use Rattle.elf_tables.specs.Numbered.{Present, sections_by, section_by, table_by, IndexBy, file_by};
 ghost use Rattle.elf_tables.specs.Checked.{kind_by, room_ok, linked_type, symbol_table_fits, counted_by, tables_by};
 ghost use Rattle.elf_tables.specs.Placed.{table_link, strings_by, Reaches, layout_by};
@@ -18,8 +18,8 @@ use elf_header::{
 };
 use elf_ident::{field_is, first_bytes_ok};
 use elf_layout::Layout;
-use model::{Refusal, SectionIndex, SymbolIndex};
-use object_view::{Form, Places, Strings, View};
+use model::Refusal;
+use object_view::{Form, Places, Strings, View, without_place};
 use std::ops::Range;
 
 // A file whose section headers have their first 48 bytes present, and the number of its first symbol table.
@@ -355,26 +355,15 @@ impl<'a> ElfFile<'a> {
     }
 }
 
-fn refusal(number: u32) -> Refusal
-    ensures { result ≡ file_refusal number }
-{
-    Refusal {
-        number,
-        section: SectionIndex(0),
-        symbol: SymbolIndex(0),
-        entry: 0,
-    }
-}
-
 // A file without a whole header has no sections, and is 26 where it is not 25.
 fn check_short(d: &[u8]) -> Refusal
     requires { length d.now < 64 }
     ensures { checked_file d.now ≡ Err result }
 {
     if first_bytes_ok(d, file_order(d)) {
-        refusal(26)
+        without_place(26)
     } else {
-        refusal(25)
+        without_place(25)
     }
 }
 
@@ -387,10 +376,10 @@ pub fn check(d: &[u8]) -> Result<Layout, Refusal>
     }
     let file = ElfFile::read(d);
     if !file.kind_ok() {
-        return Err(refusal(25));
+        return Err(without_place(25));
     }
     match file.check_tables() {
         Some(relocations) => Ok(file.layout(relocations)),
-        None => Err(refusal(26)),
+        None => Err(without_place(26)),
     }
 }

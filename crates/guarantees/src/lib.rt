@@ -5,7 +5,8 @@
 ghost use Rattle.std.specs.Prelude.{Bool, List, ℕ};
 ghost use Rattle.model.specs.declared.Room.{Room};
 ghost use Rattle.guarantees.specs.WordsOfDemand3.{Input};
-ghost use Rattle.guarantees.specs.Demand3.{Demand3First, Demand3Second, MapBytes, LastEntry, NoEntry, EntryPassedOver, Immediates, LaterCall, FirstLent, SecondLent, SecondBoth};
+ghost use Rattle.guarantees.specs.Demand3.{Demand3First, Demand3Second, MapBytes, LastEntry, NoEntry, EntryPassedOver};
+ghost use Rattle.guarantees.specs.Demand3.{Immediates, LaterCall, FirstLent, SecondLent, SecondBoth};
 ghost use Rattle.guarantees.specs.LentBack.{LentReadBack, OneCatalogue, LentLengths};
 ghost use Rattle.guarantees.specs.RefusedCalls.{RefusedZeroes, RefusedNames, Only24};
 

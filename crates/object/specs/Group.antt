@@ -1,6 +1,7 @@
 -- The symbols of one section by number; number 10 by the records; the refusal that a number answered for a symbol stands for.
-use Rattle.std.specs.Prelude.{◌≡◌, refl, Bool, false, ◌||◌, List, [], ◌∷◌, map, ℕ, ◌+◌, ◌<◌, ◌≤◌, ltb, length, get_or, None, Option, Some}
-use Rattle.std.proofs.Common.{not-suc-le-zero}
+use Rattle.std.specs.Prelude.{◌≡◌, refl, Bool, ◌||◌, List, [], ◌∷◌, map, ℕ, suc, ◌+◌, ◌<◌, ◌≤◌, eqb, ltb, length, get_or, None, Option, Some}
+use Rattle.std.proofs.Common.{sym, arith}
+use borrow.Author.Tests.{ne_eqb}
 use Rattle.std.proofs.Math.Seq.{slice}
 use Rattle.lists.specs.Tab.{tab}
 use Rattle.object_view.specs.declared.View.{View}
@@ -44,9 +45,9 @@ module _ (d t : List ℕ) (v : View) where
     unfolding members
     member_below lo hi k order e = kept-below (λ j. lies_in (section_from d t v s).index (symbol_in d t v j).section) v.symbols lo hi k order e
 
-  pub some-symbol : (js : List ℕ) → 0 < length js → is_empty (map (symbol_in d t v) js) ≡ false
-  some-symbol [] l = absurd (not-suc-le-zero l)
-  some-symbol (j ∷ js) l = refl
+  pub empty-by-length : (js : List ℕ) → is_empty (map (symbol_in d t v) js) ≡ eqb (length js) 0
+  empty-by-length [] = refl
+  empty-by-length (j ∷ js) = sym (ne_eqb (suc (length js)) 0 (λ e. omega arith))
 
   pub past-by-record : (s : SectionRecord) (offset size : ℕ) → passes (section_from d t v s).bytes offset size ≡ past_data s.bytes.length offset size
   unfolding passes section_from

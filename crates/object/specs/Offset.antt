@@ -1,5 +1,5 @@
 -- Where a function's code begins in the data of its section, by the records.
-use Rattle.std.specs.Prelude.{◌≡◌, Bool, cond, List, ℕ, ◌-◌}
+use Rattle.std.specs.Prelude.{◌≡◌, cond, List, ℕ, ◌-◌}
 use Rattle.std.proofs.Math.Path.{refl}
 use Rattle.model.specs.declared.EbpfSectionKind.{EbpfSectionKind as Kind}
 use Rattle.model.specs.declared.SectionRecord.{SectionRecord}
@@ -21,8 +21,3 @@ module _ (d t : List ℕ) (v : View) (s : SectionRecord) (y : SymbolRecord) wher
   -- text's is at its address past that of the section
   unfoldable pub code_offset : ℕ
   code_offset = cond (is_kind Kind.Program (kind_of (section_from d t v s))) (record_offset s y) (y.address - s.address)
-
-  -- by the section's kind
-  pub code-offset : (k : Kind) (b : Bool) → k ≡ kind_of (section_from d t v s) → b ≡ is_kind Kind.Program k → cond b (record_offset s y) (y.address - s.address) ≡ code_offset
-  unfolding code_offset
-  code-offset k b e f = rw (f, e)

@@ -1,10 +1,11 @@
-// How an opened object lies in the bytes that were given, and which index its records have for none.
+// How an opened object lies in the bytes that were given, which index its records have for none, and refusals that name no place.
 #![tactic(auto)]
 
 ghost use Rattle.std.specs.Prelude.{◌≡◌};
 ghost use Rattle.object_view.specs.NoIndex.{is_none};
+ghost use Rattle.object_view.specs.Refused.{without_place};
 
-use model::{Endianness, SectionIndex, SymbolIndex};
+use model::{Endianness, Refusal, SectionIndex, SymbolIndex};
 
 // What was given: a deposit's blocks, or an ELF file.
 #[derive(Clone, Copy)]
@@ -56,4 +57,16 @@ pub fn is_no_symbol(index: SymbolIndex) -> bool
     ensures { result ≡ is_none index.0 }
 {
     index.0 == NO_INDEX
+}
+
+// A refusal that names neither a record nor an entry.
+pub fn without_place(number: u32) -> Refusal
+    ensures { result ≡ without_place number }
+{
+    Refusal {
+        number,
+        section: SectionIndex(0),
+        symbol: SymbolIndex(0),
+        entry: 0,
+    }
 }

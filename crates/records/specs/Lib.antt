@@ -4,3 +4,4 @@ pub mod Fields
 pub mod View
 pub mod Maps
 pub mod Readable
+pub mod Of

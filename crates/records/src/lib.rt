@@ -9,13 +9,18 @@ ghost use Rattle.stream.specs.Spans.{bytes_of};
 ghost use Rattle.records.specs.Records.{head_at, symbols_at, relocations_at, names_at, data_at, extent_in, deposit_section, deposit_symbol};
 ghost use Rattle.records.specs.Records.{deposit_relocation, cursor, step_of};
 ghost use Rattle.records.specs.View.{gap_of, name_in, data_in, deposit_view, section_at, symbol_at, relocation_at};
+ghost use Rattle.records.specs.Of.{of};
 ghost use Rattle.records.specs.Maps.{map_source_of, map_number_of, map_name_at};
 
+pub mod opened;
+
+use elf_records::FileRecords;
 use model::{
     Endianness, Extent, Head, RelocationRecord, SectionIndex, SectionRecord, SymbolIndex,
     SymbolRecord,
 };
 use object_view::{Form, Places, Strings, View};
+pub use opened::{Object, Records};
 use stream::{Span, Stream, eight, four};
 
 // The stream of a deposit: its checks stand between the blocks.
@@ -26,7 +31,7 @@ pub fn deposit_stream(d: &[u8]) -> Stream<'_>
     Stream { bytes: d, gap: 4 }
 }
 
-pub fn head(d: &[u8]) -> Head
+fn head(d: &[u8]) -> Head
     ensures { result ≡ head_at d.now }
 {
     let stream = deposit_stream(d);
@@ -132,14 +137,6 @@ impl Record<16> for RelocationRecord {
     }
 }
 
-// A deposit's section record i, counted from 0; before its rules are checked.
-#[tactic(auto, unfolding(crate::specs::Records::deposit_section))]
-pub fn deposit_section(d: &[u8], i: u32) -> SectionRecord
-    ensures { result ≡ deposit_section d.now i }
-{
-    record_at(d, 32 + 48 * i as usize)
-}
-
 // Where the tables begin, and where the stream ends.
 pub fn symbols_at(h: Head) -> usize
     ensures { (result ≡ symbols_at h) × (result < 2 ^ 40) }
@@ -172,18 +169,44 @@ pub fn end_of(h: Head) -> usize
     data_at(h) + h.bytes as usize
 }
 
-#[tactic(auto, unfolding(crate::specs::Records::deposit_symbol))]
-pub fn deposit_symbol(d: &[u8], h: Head, i: u32) -> SymbolRecord
-    ensures { result ≡ deposit_symbol d.now h i }
-{
-    record_at(d, symbols_at(h) + 40 * i as usize)
+// A deposit's bytes and its head; its records, counted from 0, before their rules are checked.
+#[derive(Clone, Copy)]
+pub struct Deposit<'a> {
+    pub bytes: &'a [u8],
+    pub head: Head,
 }
 
-#[tactic(auto, unfolding(crate::specs::Records::deposit_relocation))]
-pub fn deposit_relocation(d: &[u8], h: Head, i: u32) -> RelocationRecord
-    ensures { result ≡ deposit_relocation d.now h i }
-{
-    record_at(d, relocations_at(h) + 16 * i as usize)
+impl<'a> Deposit<'a> {
+    pub fn new(d: &'a [u8]) -> Self
+        ensures bytes { result.bytes.now ≡ d.now }
+        ensures head { result.head ≡ head_at d.now }
+    {
+        Deposit {
+            bytes: d,
+            head: head(d),
+        }
+    }
+
+    #[tactic(auto, unfolding(crate::specs::Records::deposit_section))]
+    pub fn section(self, i: u32) -> SectionRecord
+        ensures { result ≡ deposit_section self.entry.bytes.now i }
+    {
+        record_at(self.bytes, 32 + 48 * i as usize)
+    }
+
+    #[tactic(auto, unfolding(crate::specs::Records::deposit_symbol))]
+    pub fn symbol(self, i: u32) -> SymbolRecord
+        ensures { result ≡ deposit_symbol self.entry.bytes.now self.entry.head i }
+    {
+        record_at(self.bytes, symbols_at(self.head) + 40 * i as usize)
+    }
+
+    #[tactic(auto, unfolding(crate::specs::Records::deposit_relocation))]
+    pub fn relocation(self, i: u32) -> RelocationRecord
+        ensures { result ≡ deposit_relocation self.entry.bytes.now self.entry.head i }
+    {
+        record_at(self.bytes, relocations_at(self.head) + 16 * i as usize)
+    }
 }
 
 // ---- the view
@@ -225,167 +248,224 @@ pub fn deposit_view(h: Head) -> View
     }
 }
 
-// The gap behind each 508 bytes of the stream.
-pub fn gap(v: View) -> usize
-    ensures { (result ≡ gap_of v) × (result ≤ 4) }
-{
-    match v.form {
-        Form::Deposit => 4,
-        Form::Elf => 0,
+impl<'a> Records<'a> {
+    // The stream that the view's places count; behind each 508 bytes of it stands a gap.
+    pub fn stream(self) -> Stream<'a>
+        ensures bytes { result.bytes.now ≡ self.entry.bytes.now }
+        ensures gap { result.gap ≡ gap_of self.entry.view }
+    {
+        let gap = match self.view.form {
+            Form::Deposit => 4,
+            Form::Elf => 0,
+        };
+        Stream {
+            bytes: self.bytes,
+            gap,
+        }
     }
-}
 
-// The stream that a view's places count.
-pub fn stream(d: &[u8], v: View) -> Stream<'_>
-    ensures bytes { result.bytes.now ≡ d.now }
-    ensures gap { result.gap ≡ gap_of v }
-{
-    Stream {
-        bytes: d,
-        gap: gap(v),
+    // The records, read as a file's.
+    fn file(self) -> FileRecords<'a>
+        ensures bytes { result.bytes.now ≡ self.entry.bytes.now }
+        ensures index { result.index.now ≡ self.entry.index.now }
+        ensures view { result.view ≡ self.entry.view }
+    {
+        FileRecords {
+            bytes: self.bytes,
+            index: self.index,
+            view: self.view,
+        }
     }
-}
 
-// ---- whole records
+    // ---- whole records
 
-// Section record i, counted from 0.
-#[tactic(auto, unfolding(crate::specs::View::section_at, elf_records::specs::Elf::elf_section))]
-pub fn section(d: &[u8], t: &[u32], v: View, i: u32) -> SectionRecord
-    ensures { result ≡ section_at d.now t.now v i }
-{
-    match v.form {
-        Form::Deposit => record_at(d, v.at.sections as usize + 48 * i as usize),
-        Form::Elf => elf_records::section(d, t, v, i),
+    // Section record i, counted from 0.
+    #[tactic(auto, unfolding(crate::specs::View::section_at, elf_records::specs::Elf::elf_section))]
+    pub fn section(self, i: u32) -> SectionRecord
+        ensures { result ≡ of section_at self.entry i }
+    {
+        match self.view.form {
+            Form::Deposit => record_at(
+                self.bytes,
+                self.view.at.sections as usize + 48 * i as usize,
+            ),
+            Form::Elf => self.file().section(i),
+        }
     }
-}
 
-#[tactic(auto, unfolding(crate::specs::View::symbol_at, elf_records::specs::Elf::elf_symbol))]
-pub fn symbol(d: &[u8], t: &[u32], v: View, i: u32) -> SymbolRecord
-    ensures { result ≡ symbol_at d.now t.now v i }
-{
-    match v.form {
-        Form::Deposit => record_at(d, v.at.symbols as usize + 40 * i as usize),
-        Form::Elf => elf_records::symbol(d, t, v, i),
+    #[tactic(auto, unfolding(crate::specs::View::symbol_at, elf_records::specs::Elf::elf_symbol))]
+    pub fn symbol(self, i: u32) -> SymbolRecord
+        ensures { result ≡ of symbol_at self.entry i }
+    {
+        match self.view.form {
+            Form::Deposit => record_at(self.bytes, self.view.at.symbols as usize + 40 * i as usize),
+            Form::Elf => self.file().symbol(i),
+        }
     }
-}
 
-#[tactic(auto, unfolding(crate::specs::View::relocation_at, elf_records::specs::Elf::elf_relocation))]
-pub fn relocation(d: &[u8], t: &[u32], v: View, i: u32) -> RelocationRecord
-    ensures { result ≡ relocation_at d.now t.now v i }
-{
-    match v.form {
-        Form::Deposit => record_at(d, v.at.relocations as usize + 16 * i as usize),
-        Form::Elf => elf_records::relocation(d, t, v, i),
+    #[tactic(auto, unfolding(crate::specs::View::relocation_at, elf_records::specs::Elf::elf_relocation))]
+    pub fn relocation(self, i: u32) -> RelocationRecord
+        ensures { result ≡ of relocation_at self.entry i }
+    {
+        match self.view.form {
+            Form::Deposit => {
+                record_at(
+                    self.bytes,
+                    self.view.at.relocations as usize + 16 * i as usize,
+                )
+            }
+            Form::Elf => self.file().relocation(i),
+        }
     }
-}
 
-// ---- single fields
+    // ---- single fields
 
-#[tactic(auto, unfolding(crate::specs::View::section_at, elf_records::specs::Elf::elf_section))]
-pub fn section_index(d: &[u8], t: &[u32], v: View, i: u32) -> SectionIndex
-    ensures { result ≡ (section_at d.now t.now v i).index }
-{
-    match v.form {
-        Form::Deposit => SectionIndex(deposit_stream(d).u32_at(
-            v.at.sections as usize + 48 * i as usize,
-        )),
-        Form::Elf => elf_records::section_index(i),
+    #[tactic(auto, unfolding(crate::specs::View::section_at, elf_records::specs::Elf::elf_section))]
+    pub fn section_index(self, i: u32) -> SectionIndex
+        ensures { result ≡ (of section_at self.entry i).index }
+    {
+        match self.view.form {
+            Form::Deposit => SectionIndex(deposit_stream(self.bytes).u32_at(
+                self.view.at.sections as usize + 48 * i as usize,
+            )),
+            Form::Elf => elf_records::section_index(i),
+        }
     }
-}
 
-#[tactic(auto, unfolding(crate::specs::View::section_at, elf_records::specs::Elf::elf_section))]
-pub fn section_name(d: &[u8], t: &[u32], v: View, i: u32) -> Extent
-    ensures { result ≡ (section_at d.now t.now v i).name }
-{
-    match v.form {
-        Form::Deposit => record_at(d, v.at.sections as usize + 48 * i as usize + 8),
-        Form::Elf => elf_records::section_name(d, t, v, i),
+    #[tactic(auto, unfolding(crate::specs::View::section_at, elf_records::specs::Elf::elf_section))]
+    pub fn section_name(self, i: u32) -> Extent
+        ensures { result ≡ (of section_at self.entry i).name }
+    {
+        match self.view.form {
+            Form::Deposit => {
+                record_at(
+                    self.bytes,
+                    self.view.at.sections as usize + 48 * i as usize + 8,
+                )
+            }
+            Form::Elf => self.file().section_name(i),
+        }
     }
-}
 
-#[tactic(auto, unfolding(crate::specs::View::symbol_at, elf_records::specs::Elf::elf_symbol))]
-pub fn symbol_section(d: &[u8], t: &[u32], v: View, i: u32) -> SectionIndex
-    ensures { result ≡ (symbol_at d.now t.now v i).section }
-{
-    match v.form {
-        Form::Deposit => SectionIndex(deposit_stream(d).u32_at(
-            v.at.symbols as usize + 40 * i as usize + 4,
-        )),
-        Form::Elf => elf_records::symbol_section(d, v, i),
+    #[tactic(auto, unfolding(crate::specs::View::symbol_at, elf_records::specs::Elf::elf_symbol))]
+    pub fn symbol_section(self, i: u32) -> SectionIndex
+        ensures { result ≡ (of symbol_at self.entry i).section }
+    {
+        match self.view.form {
+            Form::Deposit => SectionIndex(deposit_stream(self.bytes).u32_at(
+                self.view.at.symbols as usize + 40 * i as usize + 4,
+            )),
+            Form::Elf => self.file().symbol_section(i),
+        }
     }
-}
 
-#[tactic(auto, unfolding(crate::specs::View::symbol_at, elf_records::specs::Elf::elf_symbol))]
-pub fn symbol_name(d: &[u8], t: &[u32], v: View, i: u32) -> Extent
-    ensures { result ≡ (symbol_at d.now t.now v i).name }
-{
-    match v.form {
-        Form::Deposit => record_at(d, v.at.symbols as usize + 40 * i as usize + 8),
-        Form::Elf => elf_records::symbol_name(d, t, v, i),
+    #[tactic(auto, unfolding(crate::specs::View::symbol_at, elf_records::specs::Elf::elf_symbol))]
+    pub fn symbol_name(self, i: u32) -> Extent
+        ensures { result ≡ (of symbol_at self.entry i).name }
+    {
+        match self.view.form {
+            Form::Deposit => {
+                record_at(
+                    self.bytes,
+                    self.view.at.symbols as usize + 40 * i as usize + 8,
+                )
+            }
+            Form::Elf => self.file().symbol_name(i),
+        }
     }
-}
 
-#[tactic(auto, unfolding(crate::specs::View::symbol_at, elf_records::specs::Elf::elf_symbol))]
-pub fn symbol_address(d: &[u8], t: &[u32], v: View, i: u32) -> u64
-    ensures { result ≡ (symbol_at d.now t.now v i).address }
-{
-    match v.form {
-        Form::Deposit => deposit_stream(d).u64_at(v.at.symbols as usize + 40 * i as usize + 16),
-        Form::Elf => elf_records::symbol_address(d, v, i),
+    #[tactic(auto, unfolding(crate::specs::View::symbol_at, elf_records::specs::Elf::elf_symbol))]
+    pub fn symbol_address(self, i: u32) -> u64
+        ensures { result ≡ (of symbol_at self.entry i).address }
+    {
+        match self.view.form {
+            Form::Deposit => {
+                let at = self.view.at.symbols as usize + 40 * i as usize + 16;
+                deposit_stream(self.bytes).u64_at(at)
+            }
+            Form::Elf => self.file().symbol_address(i),
+        }
     }
-}
 
-#[tactic(auto, unfolding(crate::specs::View::relocation_at, elf_records::specs::Elf::elf_relocation))]
-pub fn relocation_offset(d: &[u8], t: &[u32], v: View, i: u32) -> u64
-    ensures { result ≡ (relocation_at d.now t.now v i).offset }
-{
-    match v.form {
-        Form::Deposit => deposit_stream(d).u64_at(v.at.relocations as usize + 16 * i as usize),
-        Form::Elf => elf_records::relocation_offset(d, t, v, i),
+    #[tactic(auto, unfolding(crate::specs::View::relocation_at, elf_records::specs::Elf::elf_relocation))]
+    pub fn relocation_offset(self, i: u32) -> u64
+        ensures { result ≡ (of relocation_at self.entry i).offset }
+    {
+        match self.view.form {
+            Form::Deposit => {
+                let at = self.view.at.relocations as usize + 16 * i as usize;
+                deposit_stream(self.bytes).u64_at(at)
+            }
+            Form::Elf => self.file().relocation_offset(i),
+        }
     }
-}
 
-#[tactic(auto, unfolding(crate::specs::View::relocation_at, elf_records::specs::Elf::elf_relocation))]
-pub fn relocation_symbol(d: &[u8], t: &[u32], v: View, i: u32) -> SymbolIndex
-    ensures { result ≡ (relocation_at d.now t.now v i).symbol }
-{
-    match v.form {
-        Form::Deposit => SymbolIndex(deposit_stream(d).u32_at(
-            v.at.relocations as usize + 16 * i as usize + 8,
-        )),
-        Form::Elf => elf_records::relocation_symbol(d, t, v, i),
+    #[tactic(auto, unfolding(crate::specs::View::relocation_at, elf_records::specs::Elf::elf_relocation))]
+    pub fn relocation_symbol(self, i: u32) -> SymbolIndex
+        ensures { result ≡ (of relocation_at self.entry i).symbol }
+    {
+        match self.view.form {
+            Form::Deposit => SymbolIndex(deposit_stream(self.bytes).u32_at(
+                self.view.at.relocations as usize + 16 * i as usize + 8,
+            )),
+            Form::Elf => self.file().relocation_symbol(i),
+        }
     }
-}
 
-// Where a name and data of a record begin in the stream.
-pub fn name_at(v: View, e: Extent) -> usize
-    ensures { (result ≡ v.at.names + e.at) × (result < 2 ^ 33) }
-{
-    v.at.names as usize + e.at as usize
-}
+    // ---- names and data
 
-pub fn data_place(v: View, e: Extent) -> usize
-    ensures { (result ≡ v.at.bytes + e.at) × (result < 2 ^ 33) }
-{
-    v.at.bytes as usize + e.at as usize
-}
+    // The name that a record's range stands for.
+    pub fn name(self, e: Extent) -> Span<'a>
+        ensures bytes { bytes_of result ≡ name_in self.entry.bytes.now self.entry.view e }
+        ensures lent { result.stream.bytes.now ≡ self.entry.bytes.now }
+        ensures gap { result.stream.gap ≡ gap_of self.entry.view }
+        ensures len { result.len ≡ e.length }
+        ensures at { result.at ≡ self.entry.view.at.names + e.at }
+    {
+        self.stream().span(
+            self.view.at.names as usize + e.at as usize,
+            e.length as usize,
+        )
+    }
 
-// The name that a record's range stands for.
-pub fn name(d: &[u8], v: View, e: Extent) -> Span<'_>
-    ensures bytes { bytes_of result ≡ name_in d.now v e }
-    ensures len { result.len ≡ e.length }
-    ensures at { result.at < 2 ^ 33 }
-{
-    stream(d, v).span(name_at(v, e), e.length as usize)
-}
+    // The data that a record's range stands for.
+    pub fn data(self, e: Extent) -> Span<'a>
+        ensures bytes { bytes_of result ≡ data_in self.entry.bytes.now self.entry.view e }
+        ensures lent { result.stream.bytes.now ≡ self.entry.bytes.now }
+        ensures gap { result.stream.gap ≡ gap_of self.entry.view }
+        ensures len { result.len ≡ e.length }
+        ensures at { result.at ≡ self.entry.view.at.bytes + e.at }
+    {
+        self.stream().span(
+            self.view.at.bytes as usize + e.at as usize,
+            e.length as usize,
+        )
+    }
 
-// The data that a record's range stands for.
-pub fn data_of(d: &[u8], v: View, e: Extent) -> Span<'_>
-    ensures bytes { bytes_of result ≡ data_in d.now v e }
-    ensures len { result.len ≡ e.length }
-    ensures at { result.at < 2 ^ 33 }
-{
-    stream(d, v).span(data_place(v, e), e.length as usize)
+    // ---- maps
+
+    // The source of the map that has number n.
+    #[tactic(auto, using(std::proofs::lemmas::Bool::Decides::nat_tests), unfolding(crate::specs::Maps::map_source_of))]
+    pub fn map_source(self, n: u32) -> MapSource
+        ensures { result ≡ map_source_of self.entry.view.sections n }
+    {
+        if n < self.view.sections {
+            MapSource::Section(n)
+        } else {
+            MapSource::Symbol(n - self.view.sections)
+        }
+    }
+
+    // The range of the name of map number n.
+    #[tactic(auto, unfolding(crate::specs::Maps::map_name_at))]
+    pub fn map_name(self, n: u32) -> Extent
+        ensures { result ≡ of map_name_at self.entry n }
+    {
+        match self.map_source(n) {
+            MapSource::Section(i) => self.section_name(i),
+            MapSource::Symbol(j) => self.symbol_name(j),
+        }
+    }
 }
 
 // ---- maps
@@ -397,18 +477,6 @@ pub enum MapSource {
     Symbol(u32),
 }
 
-// The source of the map that has number n.
-#[tactic(auto, using(std::proofs::lemmas::Bool::Decides::nat_tests), unfolding(crate::specs::Maps::map_source_of))]
-pub fn map_source(v: View, n: u32) -> MapSource
-    ensures { result ≡ map_source_of v.sections n }
-{
-    if n < v.sections {
-        MapSource::Section(n)
-    } else {
-        MapSource::Symbol(n - v.sections)
-    }
-}
-
 // The number of the map that is made from a source, in an object with so many sections.
 pub fn map_number(sections: u32, source: MapSource) -> u32
     requires { map_number_of sections source < 2 ^ 32 }
@@ -417,17 +485,6 @@ pub fn map_number(sections: u32, source: MapSource) -> u32
     match source {
         MapSource::Section(i) => i,
         MapSource::Symbol(j) => sections + j,
-    }
-}
-
-// The range of the name of map number n.
-#[tactic(auto, unfolding(crate::specs::Maps::map_name_at))]
-pub fn map_name(d: &[u8], t: &[u32], v: View, n: u32) -> Extent
-    ensures { result ≡ map_name_at d.now t.now v n }
-{
-    match map_source(v, n) {
-        MapSource::Section(i) => section_name(d, t, v, i),
-        MapSource::Symbol(j) => symbol_name(d, t, v, j),
     }
 }
 

@@ -1,12 +1,12 @@
 -- The number of the section that has an index, and of the one that a symbol lies in: `owner` and `home` of a deposit's records.
-use Rattle.std.specs.Prelude.{◌≡◌, Bool, true, false, ◌&&◌, List, ℕ, ◌+◌, ◌<◌, ◌≤◌, ltb, None, Option, Some, unwrap_or}
+use Rattle.std.specs.Prelude.{◌≡◌, Bool, true, false, ◌&&◌, List, ℕ, ◌<◌, ◌≤◌, ltb, None, Option, Some}
 use Rattle.std.proofs.Math.Path.{refl}
-use Rattle.std.proofs.Common.{⊎_elim, le_refl, eq-or-lt_of_le, lt_trans, le_trans, le_of_lt, arith}
+use Rattle.std.specs.Bool.{then_some}
+use Rattle.std.proofs.Common.{sym, ⊎_elim, le_refl, eq-or-lt_of_le, lt_trans, arith}
 use borrow.Author.Tests.{eqb-true, eq-eqb, ne_eqb, ltb-true, ltb-false, lt-ltb}
 use Rattle.std.proofs.Math.Dec.{eqb}
 use Rattle.lists.specs.Tests.{true-not-false, both_true}
 use Rattle.object_view.specs.declared.View.{View}
-use Rattle.object_view.specs.NoIndex.{is_none}
 use Rattle.model.specs.declared.SymbolRecord.{SymbolRecord}
 use Rattle.model.specs.Bytes.{maybe}
 use Rattle.model.specs.Deposit.{unless_none}
@@ -25,15 +25,6 @@ module _ (d t : List ℕ) (v : View) where
   -- section record i has index k
   abbrev pub has_index : ℕ → ℕ → Bool
   has_index k i = ltb i v.sections && eqb (section_at d t v i).index.0 k
-
-  -- what holds of record m's index holds of those below it, or of those above
-  module _ (rise : SectionsRise d t v) (k m : ℕ) where
-    pub all-below : m < v.sections → (section_at d t v m).index.0 < k → (i : ℕ) → i < m + 1 → (section_at d t v i).index.0 < k
-    all-below l q i n =
-        let e : i ≤ m = omega arith in ⊎_elim (λ e. rw e q) (λ t. lt_trans (rise i m t l) q) (eq-or-lt_of_le e)
-
-    pub all_above : k ≤ (section_at d t v m).index.0 → (i : ℕ) → m ≤ i → i < v.sections → k ≤ (section_at d t v i).index.0
-    all_above q i n l = ⊎_elim (λ e. rw (← e) q) (λ t. le_trans q (le_of_lt (rise m i t l))) (eq-or-lt_of_le n)
 
   -- the number of the section that has index k
   abbrev pub owner_in : ℕ → Option ℕ
@@ -64,12 +55,12 @@ module _ (d t : List ℕ) (v : View) where
     found_at : r < v.sections → (section_at d t v r).index.0 ≡ k → owner_in k ≡ Some r
     found_at l e = rw (← e, owned rise r l)
 
-    pub found : has_index k r ≡ true → owner_in k ≡ Some r
+    pub found : has_index k r ≡ true → Some r ≡ owner_in k
     found h =
         let (l, e) = both_true (ltb r v.sections) (eqb (section_at d t v r).index.0 k) h in
-        found_at (ltb-true r v.sections l) (eqb-true (section_at d t v r).index.0 k e)
+        sym (found_at (ltb-true r v.sections l) (eqb-true (section_at d t v r).index.0 k e))
 
-    pub not_found : FirstNotBelow k r → has_index k r ≡ false → owner_in k ≡ None
+    not_found : FirstNotBelow k r → has_index k r ≡ false → owner_in k ≡ None
     not_found f h = rw (nobody k none_has)
       where
         n : r < v.sections → (section_at d t v r).index.0 ≡ k → ⊥
@@ -83,14 +74,9 @@ module _ (d t : List ℕ) (v : View) where
             go false t =
                 ⊎_elim (λ q. n (rw q l) (rw q e)) (λ q. omega (arith, rise r i q l, f.above r (le_refl r) (lt_trans q l))) (eq-or-lt_of_le (ltb-false i r t))
 
-  -- what a symbol's record and the owner of its section's index answer
-  module _ (y : SymbolRecord) where
-    pub home-none : is_none y.section.0 ≡ true → 0 ≡ home_of y
-    home-none e = rw e
-
-    home_by : (o : Option ℕ) → unwrap_or o 0 ≡ maybe o 0 (λ i. i)
-    home_by None = refl
-    home_by (Some i) = refl
-
-    pub home_some : is_none y.section.0 ≡ false → unwrap_or (owner_in y.section.0) 0 ≡ home_of y
-    home_some n = rw n (home_by (owner_in y.section.0))
+    pub found_first : FirstNotBelow k r → then_some (has_index k r) r ≡ owner_in k
+    found_first f = go (has_index k r) refl
+      where
+        go : (b : Bool) → has_index k r ≡ b → then_some b r ≡ owner_in k
+        go true h = found h
+        go false h = sym (not_found f h)

@@ -4,12 +4,12 @@
 
 ghost use Rattle.std.specs.Prelude.{◌≡◌, ◌-◌};
 ghost use Rattle.records.specs.View.{section_at, symbol_at};
-ghost use Rattle.records.specs.Readable.{Readable};
+ghost use Rattle.records.specs.Of.{of};
 ghost use Rattle.symbol_section.specs.Owner.{FirstNotBelow, has_index, owner_in, home_of, home_in};
 
 use model::{SectionIndex, SectionRecord, SymbolRecord};
-use object_view::{View, is_no_section};
-use records::section_index;
+use object_view::is_no_section;
+use records::{Object, Records};
 
 // A symbol with the section that it lies in.
 #[derive(Clone, Copy)]
@@ -19,30 +19,29 @@ pub struct Member {
 }
 
 // The number of the record that has index k, where the indexes follow one another.
-fn guess(d: &[u8], t: &[u32], v: View, k: SectionIndex) -> u32
-    ensures { result ≡ k.0 - (section_at d.now t.now v 0).index.0 }
+fn guess(records: Records, k: SectionIndex) -> u32
+    ensures { result ≡ k.0 - (of section_at records.entry 0).index.0 }
 {
-    k.0.saturating_sub(section_index(d, t, v, 0).0)
+    k.0.saturating_sub(records.section_index(0).0)
 }
 
 // Whether section record i has index k.
-fn has_index(d: &[u8], t: &[u32], v: View, i: u32, k: SectionIndex) -> bool
-    ensures { result ≡ has_index d.now t.now v k.0 i }
+fn has_index(records: Records, i: u32, k: SectionIndex) -> bool
+    ensures { result ≡ of has_index records.entry k.0 i }
 {
-    i < v.sections && section_index(d, t, v, i).0 == k.0
+    i < records.view.sections && records.section_index(i).0 == k.0
 }
 
 // The first section record whose index is not below k, or how many there are.
-fn lower_bound(d: &[u8], t: &[u32], v: View, k: SectionIndex) -> u32
-    requires { Readable d.now t.now v }
-    ensures { FirstNotBelow d.now t.now v k.0 result }
+fn lower_bound(object: Object, k: SectionIndex) -> u32
+    ensures { of FirstNotBelow object.entry.records k.0 result }
 {
     let mut low: u32 = 0;
-    let mut high: u32 = v.sections;
-    // the part that is left is halved, so its ends aren't a range to walk
+    let mut high: u32 = object.records.view.sections;
+    // Records are read by number and lie in no slice, so std's `partition_point` can't search them.
     while low < high {
         let middle = low + (high - low) / 2;
-        if section_index(d, t, v, middle).0 < k.0 {
+        if object.records.section_index(middle).0 < k.0 {
             low = middle + 1;
         } else {
             high = middle;
@@ -51,41 +50,35 @@ fn lower_bound(d: &[u8], t: &[u32], v: View, k: SectionIndex) -> u32
     low
 }
 
-pub fn section_of(d: &[u8], t: &[u32], v: View, index: SectionIndex) -> Option<u32>
-    requires { Readable d.now t.now v }
-    ensures { result ≡ owner_in d.now t.now v index.0 }
+#[tactic(auto, using(crate::specs::Owner::found, crate::specs::Owner::found_first))]
+pub fn section_of(object: Object, index: SectionIndex) -> Option<u32>
+    ensures { result ≡ of owner_in object.entry.records index.0 }
 {
-    let near = guess(d, t, v, index);
-    if has_index(d, t, v, near, index) {
+    let near = guess(object.records, index);
+    if has_index(object.records, near, index) {
         return Some(near);
     }
-    let i = lower_bound(d, t, v, index);
-    if has_index(d, t, v, i, index) {
-        Some(i)
-    } else {
-        None
-    }
+    let i = lower_bound(object, index);
+    has_index(object.records, i, index).then_some(i)
 }
 
 // The section that a symbol lies in, 0 where there is none.
-pub fn section_of_symbol(d: &[u8], t: &[u32], v: View, y: SymbolRecord) -> u32
-    requires { Readable d.now t.now v }
-    ensures { result ≡ home_of d.now t.now v y }
+pub fn section_of_symbol(object: Object, y: SymbolRecord) -> u32
+    ensures { result ≡ of home_of object.entry.records y }
 {
-    let index = y.section;
-    if is_no_section(index) {
+    if is_no_section(y.section) {
         return 0;
     }
-    section_of(d, t, v, index).unwrap_or(0)
+    section_of(object, y.section).unwrap_or(0)
 }
 
 // Symbol j with its section.
-pub fn member_at(d: &[u8], t: &[u32], v: View, j: u32) -> Member
-    requires { Readable d.now t.now v }
-    ensures { (result.symbol ≡ symbol_at d.now t.now v j)
-        × (result.section ≡ section_at d.now t.now v (home_in d.now t.now v j)) }
+#[tactic(auto, unfolding(object::specs::View::symbol_from))]
+pub fn member_at(object: Object, j: u32) -> Member
+    ensures { (result.symbol ≡ of symbol_at object.entry.records j)
+        × (result.section ≡ of section_at object.entry.records (of home_in object.entry.records j)) }
 {
-    let symbol = records::symbol(d, t, v, j);
-    let section = records::section(d, t, v, section_of_symbol(d, t, v, symbol));
+    let symbol = object.records.symbol(j);
+    let section = object.records.section(section_of_symbol(object, symbol));
     Member { symbol, section }
 }

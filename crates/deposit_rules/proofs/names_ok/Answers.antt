@@ -11,9 +11,9 @@ pub name_bytes-requires : goal.name_bytes-requires
 unfolding end_of
 name_bytes-requires c =
     let a = c.args in
-    let n : ℕ = c.names_at.result + a.h.names in
-    let l : n ≤ end_of a.h = omega arith in
-    rw (c.span.ensures.stream, c.deposit_stream.ensures.bytes, c.deposit_stream.ensures.gap, c.span.ensures.at, c.span.ensures.len) (omega arith, le_trans (place_mono 4 n (end_of a.h) l) c.requires)
+    let n : ℕ = c.names_at.result + a.deposit.head.names in
+    let l : n ≤ end_of a.deposit.head = omega arith in
+    rw (c.span.ensures.stream, c.deposit_stream.ensures.bytes, c.deposit_stream.ensures.gap, c.span.ensures.at, c.span.ensures.len) (omega arith, le_trans (place_mono 4 n (end_of a.deposit.head) l) c.requires)
 
 pub returns : goal.returns
 unfolding names_ok

@@ -11,17 +11,17 @@ returns-then-not-relocation_ok c =
     let a = c.args in
     sym
     (c.loop-i.invariant
-    ∙ all_from (deposit_relocation a.d.now a.h) a.h.relocations c.loop-i.i relocation_ok (omega arith)
-    ∙ rw (← c.deposit_relocation.ensures, ← c.relocation_ok.ensures, c.if-not-relocation_ok.true))
+    ∙ all_from (deposit_relocation a.deposit.bytes.now a.deposit.head) a.deposit.head.relocations c.loop-i.i relocation_ok (omega arith)
+    ∙ rw (← c.relocation.ensures, ← c.relocation_ok.ensures, c.if-not-relocation_ok.true))
 
 pub loop-i-preserved : goal.loop-i-preserved
 loop-i-preserved c =
     let a = c.args in
     c.loop-i.invariant
-    ∙ all_from (deposit_relocation a.d.now a.h) a.h.relocations c.loop-i.i relocation_ok (omega arith)
-    ∙ rw (← c.deposit_relocation.ensures, ← c.relocation_ok.ensures, c.if-not-relocation_ok.false)
+    ∙ all_from (deposit_relocation a.deposit.bytes.now a.deposit.head) a.deposit.head.relocations c.loop-i.i relocation_ok (omega arith)
+    ∙ rw (← c.relocation.ensures, ← c.relocation_ok.ensures, c.if-not-relocation_ok.false)
 
 pub returns : goal.returns
 returns c =
     let a = c.args in
-    sym (c.loop-i.invariant ∙ all_end (deposit_relocation a.d.now a.h) a.h.relocations c.loop-i.i relocation_ok (omega arith))
+    sym (c.loop-i.invariant ∙ all_end (deposit_relocation a.deposit.bytes.now a.deposit.head) a.deposit.head.relocations c.loop-i.i relocation_ok (omega arith))

@@ -7,4 +7,4 @@ use Rattle.deposit_rules.specs.Rules.{relocations_ok}
 use Rattle.deposit_rules.proofs.relocations_ok.Given as goal
 
 abbrev pub invariant-loop-i : goal.invariant-loop-i
-invariant-loop-i l = relocations_ok l.d l.h ≡ all relocation_ok (drop l.i (tab (deposit_relocation l.d l.h) l.h.relocations))
+invariant-loop-i l = relocations_ok l.deposit.bytes.now l.deposit.head ≡ all relocation_ok (drop l.i (tab (deposit_relocation l.deposit.bytes.now l.deposit.head) l.deposit.head.relocations))

@@ -15,12 +15,12 @@ pub returns : goal.returns
 unfolding rest_ok
 returns c =
     let a = c.args in
-    let d = a.d.now in
-    let n : ℕ = length d / 512 * 508 - end_of a.h in
+    let d = a.deposit.bytes.now in
+    let n : ℕ = length d / 512 * 508 - end_of a.deposit.head in
     let e : c.place-i.result + (length d / 512 * 508 - c.end_of-end.result) - c.place-i.result ≡ n = omega arith in
-    let f : c.place-i.result ≡ place 4 (end_of a.h) = c.place-i.ensures.0 ∙ rw (c.deposit_stream.ensures.gap, c.end_of-end.ensures.0) in
+    let f : c.place-i.result ≡ place 4 (end_of a.deposit.head) = c.place-i.ensures.0 ∙ rw (c.deposit_stream.ensures.gap, c.end_of-end.ensures.0) in
     let p = c.requires in
-    let r = rest-block (length d / 512) (end_of a.h) p.0 p.1 in
+    let r = rest-block (length d / 512) (end_of a.deposit.head) p.0 p.1 in
     let l : length d / 512 * 512 ≤ length d = div-mul-le_self (length d) 512 in
     c.zeros.ensures
-    ∙ ap all_zero (rw (e, f) (sym (bytes-block d 4 (end_of a.h) n r.0 (le_trans r.1 l))))
+    ∙ ap all_zero (rw (e, f) (sym (bytes-block d 4 (end_of a.deposit.head) n r.0 (le_trans r.1 l))))

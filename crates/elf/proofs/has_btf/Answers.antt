@@ -11,5 +11,5 @@ loop-i-preserved c =
     let m = step-record s c.in-Some.i c.in-Some.next (sym c.next.ensures ∙ c.in-Some.is) in (
       rw m.1 (omega (arith, m.2)),
       rw m.1 c.loop-i.invariant.1,
-      rw m.1 (c.loop-i.invariant.2 ∙ btf-next a.d.now a.t.now a.v s.at (rw c.loop-i.invariant.1 at m.2) ∙ rw (← m.0, ← c.is_btf.ensures, c.if-is_btf.false)),
+      rw m.1 (c.loop-i.invariant.2 ∙ btf-next a.records.bytes.now a.records.index.now a.records.view s.at (rw c.loop-i.invariant.1 at m.2) ∙ rw (← m.0, ← c.is_btf.ensures, c.if-is_btf.false)),
     )

@@ -27,7 +27,7 @@ pub returns-then-has_btf : goal.returns-then-has_btf
 returns-then-has_btf c =
     let e = c.in_ok-index.ensures in
     let q = passes c.args.d.now c.in_ok-l.l (sym c.in_ok-l.was ∙ c.requires.0) in
-    rw c.refusal.ensures (opens-btf c.args.d.now c.in_ok-l.l q _ e.0 e.1 (sym c.has_btf.ensures ∙ c.if-has_btf.true))
+    rw c.without_place.ensures (opens-btf c.args.d.now c.in_ok-l.l q _ e.0 e.1 (sym c.has_btf.ensures ∙ c.if-has_btf.true))
 
 pub returns : goal.returns
 returns c =

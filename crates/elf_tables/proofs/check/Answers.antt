@@ -25,7 +25,7 @@ tables c =
 
 pub returns-then-not-kind_ok : goal.returns-then-not-kind_ok
 returns-then-not-kind_ok c =
-    sym (checked-by c.args.d.now ∙ rw (← kind (goal.at.returns-then-not-kind_ok c).After-kind_ok, c.if-not-kind_ok.true, c.refusal.ensures))
+    sym (checked-by c.args.d.now ∙ rw (← kind (goal.at.returns-then-not-kind_ok c).After-kind_ok, c.if-not-kind_ok.true, c.without_place.ensures))
 
 pub layout-requires : goal.layout-requires
 layout-requires c =
@@ -44,4 +44,4 @@ returns-in-Some c =
 pub returns-in-None : goal.returns-in-None
 unfolding answer_by
 returns-in-None c =
-    sym (checked-by c.args.d.now ∙ rw (← kind (goal.at.returns-in-None c).After-kind_ok, c.if-not-kind_ok.false, ← tables (goal.at.returns-in-None c).After-check_tables, c.in-None.is, c.refusal-in-None.ensures))
+    sym (checked-by c.args.d.now ∙ rw (← kind (goal.at.returns-in-None c).After-kind_ok, c.if-not-kind_ok.false, ← tables (goal.at.returns-in-None c).After-check_tables, c.in-None.is, c.without_place-in-None.ensures))

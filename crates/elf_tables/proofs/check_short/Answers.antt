@@ -13,8 +13,8 @@ first-bytes c = c.first_bytes_ok.ensures ∙ ap (first_bytes_ok c.args.d.now) c.
 
 pub returns-then-first_bytes_ok : goal.returns-then-first_bytes_ok
 returns-then-first_bytes_ok c =
-    checked-short c.args.d.now c.requires ∙ rw (← first-bytes (goal.at.returns-then-first_bytes_ok c).After-first_bytes_ok, c.if-first_bytes_ok.true, c.refusal.ensures)
+    checked-short c.args.d.now c.requires ∙ rw (← first-bytes (goal.at.returns-then-first_bytes_ok c).After-first_bytes_ok, c.if-first_bytes_ok.true, c.without_place.ensures)
 
 pub returns-else-first_bytes_ok : goal.returns-else-first_bytes_ok
 returns-else-first_bytes_ok c =
-    checked-short c.args.d.now c.requires ∙ rw (← first-bytes (goal.at.returns-else-first_bytes_ok c).After-first_bytes_ok, c.if-first_bytes_ok.false, c.refusal-else-first_bytes_ok.ensures)
+    checked-short c.args.d.now c.requires ∙ rw (← first-bytes (goal.at.returns-else-first_bytes_ok c).After-first_bytes_ok, c.if-first_bytes_ok.false, c.without_place-else-first_bytes_ok.ensures)

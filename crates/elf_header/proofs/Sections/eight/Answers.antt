@@ -7,4 +7,4 @@ use Rattle.elf_header.proofs.Sections.eight.Goals as goal
 pub returns : goal.returns
 returns c =
     let s = c.args.self in
-    c.eight_in.ensures ∙ field_in_file s.bytes.now s.headers c.args.i c.args.at 8 (omega arith)
+    c.eight.ensures ∙ field_in_file s.bytes.now s.headers c.args.i c.args.at 8 (omega arith)

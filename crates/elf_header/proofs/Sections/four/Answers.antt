@@ -7,4 +7,4 @@ use Rattle.elf_header.proofs.Sections.four.Goals as goal
 pub returns : goal.returns
 returns c =
     let s = c.args.self in
-    c.four_in.ensures ∙ field_in_file s.bytes.now s.headers c.args.i c.args.at 4 (omega arith)
+    c.four.ensures ∙ field_in_file s.bytes.now s.headers c.args.i c.args.at 4 (omega arith)

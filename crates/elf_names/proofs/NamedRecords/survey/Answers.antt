@@ -19,14 +19,14 @@ to-go : (c : After-measure) →
     let d = s.bytes.now in
     let n = length c.args.lens.now in
     strings_ok r.order d r.at r.width s.start s.end n
-    ≡ (string_ok (drop c.four_in-offset.result (string_table d s.start s.end))
+    ≡ (string_ok (drop c.four-offset.result (string_table d s.start s.end))
     && all (λ o. string_ok (drop o (string_table d s.start s.end))) (drop (c.loop-i.i + 1) (tab (name_offset r.order d r.at r.width) n)))
 unfolding all
 to-go c =
     let r = c.args.self in
     let s = r.names in
     let d = s.bytes.now in
-    rw c.four_in-offset.ensures
+    rw c.four-offset.ensures
     (c.loop-i.invariant.2
     ∙ ap (all (λ o. string_ok (drop o (string_table d s.start s.end)))) (drop-tab-next (name_offset r.order d r.at r.width) (length c.args.lens.now) c.loop-i.i (omega arith)))
 
@@ -45,7 +45,7 @@ loop-i-preserved c =
     let d = s.bytes.now in
     let t = c.in_ok-length.ensures.0 in
     let f : ℕ → ℕ = λ k. length (string_at (string_table d s.start s.end) (name_offset r.order d r.at r.width k)) in
-    let e : c.in_ok-length.field-0 ≡ f c.loop-i.i = t.1 ∙ ap (λ (o : ℕ). length (string_at (string_table d s.start s.end) o)) c.four_in-offset.ensures in (
+    let e : c.in_ok-length.field-0 ≡ f c.loop-i.i = t.1 ∙ ap (λ (o : ℕ). length (string_at (string_table d s.start s.end) o)) c.four-offset.ensures in (
       c.measure.ensures.1,
       rw (e, c.loop-i.invariant.1) (tab-set f c.loop-i.i c.args.lens.now (omega arith)),
       to-go (goal.at.loop-i-preserved c).After-measure ∙ rw t.0,

@@ -8,7 +8,7 @@ use Rattle.deposit_rules.proofs.tables.Tables.check_sections.Given as goal
 
 abbrev pub invariant-loop-i : goal.invariant-loop-i
 invariant-loop-i l =
-    let d = l.self.bytes.now in
-    let h = l.self.head in
+    let d = l.self.deposit.bytes.now in
+    let h = l.self.deposit.head in
     (sections_ok d h ≡ ruled (λ r. r.index.0) (section_ok_at d h) l.last (drop l.i (tab (deposit_section d) h.sections)))
     × (some_btf d h ≡ (l.btf || some_of (is_btf d h) (drop l.i (tab (deposit_section d) h.sections))))

@@ -14,16 +14,16 @@ unfolding name_ok_at
 returns-then-self c =
     let a = c.args in
     let w = sym c.inside.ensures ∙ c.if-not-inside.false in
-    rw (le-leb a.e.length 65535 (omega arith), w, c.if-self.true) (sym (name-inside a.self.bytes.now a.self.head a.e w (a.self.known c.if-self.true)))
+    rw (le-leb a.e.length 65535 (omega arith), w, c.if-self.true) (sym (name-inside a.self.deposit.bytes.now a.self.deposit.head a.e w (a.self.known c.if-self.true)))
 
 pub name_bytes-requires : goal.name_bytes-requires
 unfolding end_of
 name_bytes-requires c =
     let a = c.args in
-    let w : a.e.at + a.e.length ≤ a.self.head.names = leb-true _ _ (sym c.inside.ensures ∙ c.if-not-inside.false) in
+    let w : a.e.at + a.e.length ≤ a.self.deposit.head.names = leb-true _ _ (sym c.inside.ensures ∙ c.if-not-inside.false) in
     let n : ℕ = c.names_at.result + a.e.at + a.e.length in
-    let l : n ≤ end_of a.self.head = omega arith in
-    rw (c.span.ensures.stream, c.deposit_stream-stream.ensures.bytes, c.deposit_stream-stream.ensures.gap, c.span.ensures.at, c.span.ensures.len) (omega arith, le_trans (place_mono 4 n (end_of a.self.head) l) a.self.placed)
+    let l : n ≤ end_of a.self.deposit.head = omega arith in
+    rw (c.span.ensures.stream, c.deposit_stream-stream.ensures.bytes, c.deposit_stream-stream.ensures.gap, c.span.ensures.at, c.span.ensures.len) (omega arith, le_trans (place_mono 4 n (end_of a.self.deposit.head) l) a.self.placed)
 
 pub returns-else-self : goal.returns-else-self
 unfolding name_ok_at

@@ -1,9 +1,0 @@
--- `records::section_index` meets its contract.
-use Prim.Native.Nat.{◌+◌, ◌*◌}
-use Rattle.records.specs.View.{section_at}
-use Rattle.records.specs.Fields.{section-index}
-use Rattle.records.proofs.section_index.Goals as goal
-
-pub returns-in-Deposit : goal.returns-in-Deposit
-unfolding section_at
-returns-in-Deposit c = let a = c.args in rw c.in-Deposit.is (cc (section-index a.d.now 4 (a.v.at.sections + 48 * a.i)))

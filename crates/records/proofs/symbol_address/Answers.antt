@@ -1,9 +1,0 @@
--- `records::symbol_address` meets its contract.
-use Prim.Native.Nat.{◌+◌, ◌*◌}
-use Rattle.records.specs.View.{symbol_at}
-use Rattle.records.specs.Fields.{symbol-address}
-use Rattle.records.proofs.symbol_address.Goals as goal
-
-pub returns-in-Deposit : goal.returns-in-Deposit
-unfolding symbol_at
-returns-in-Deposit c = let a = c.args in rw c.in-Deposit.is (cc (symbol-address a.d.now 4 (a.v.at.symbols + 40 * a.i)))
