@@ -15,7 +15,6 @@ use Rattle.stream.specs.Stream.{length-bytes}
 use Rattle.stream.specs.Laws.{take-bytes}
 use Rattle.records.specs.View.{gap_of, section_at}
 use Rattle.object.specs.View.{section_from, section_in, object_in}
-use Rattle.parse_first.specs.declared.LicenseAt.{LicenseAt}
 use Rattle.parse_first.specs.Named.{number_named}
 use Rattle.parse_first.specs.LicenceVersion.{version_refused, license_in, license_at, license_bytes}
 use Rattle.parse_first.proofs.NamedLaws.{made-of-named}
@@ -56,7 +55,7 @@ module _ (d t : List ℕ) (v : View) where
       ∙ sym (made-of-named d t v (ascii "license") (ascii "GPL") (λ s. take (length s.bytes - 1) s.bytes))
     where
       go : (o : Option ℕ)
-          → license_bytes d t v (maybe o LicenseAt.Gpl (license_in d t v))
+          → license_bytes d t v (maybe o None (λ i. Some (license_in d t v i)))
           ≡ maybe o (ascii "GPL") (λ i. take (length (section_in d t v i).bytes - 1) (section_in d t v i).bytes)
       go None = refl
       go (Some i) =

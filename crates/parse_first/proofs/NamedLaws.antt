@@ -11,7 +11,7 @@ use Rattle.model.specs.Object.{Section}
 use Rattle.model.specs.Symbols.{first_named}
 use Rattle.catalogue_laws.specs.Numbers.{up_to, tab-is-map}
 use Rattle.object.specs.View.{section_in, object_in}
-use Rattle.parse_first.specs.Named.{first_below, named_at, number_named, named_below, named_in}
+use Rattle.parse_first.specs.Named.{first_below, named_at, number_named}
 
 find-map : {A : Type 0} (p : A → Bool) (s : ℕ → A) (l : List ℕ) → find p (map s l) ≡ maybe (find (λ i. p (s i)) l) None (λ i. Some (s i))
 unfolding find first_in
@@ -46,10 +46,3 @@ module _ (d t : List ℕ) (v : View) (word : List ℕ) where
   pub number-below : (i : ℕ) → number_named d t v word ≡ Some i → i < v.sections
   unfolding number_named
   number-below i e = first_below (named_at d t v word) v.sections i e
-
--- ---- the two names
-
-module _ (d t : List ℕ) (v : View) where
-  pub named-all : named_below d t v v.sections ≡ named_in d t v
-  unfolding number_named
-  named-all = refl

@@ -1,9 +1,10 @@
 -- Numbers 4 to 7 of the licence and the version, by the section's record, and where the licence stands.
 use Rattle.model.specs.declared.VersionError.{VersionError}
 use Rattle.model.specs.declared.LicenseError.{LicenseError}
-use Rattle.std.specs.Prelude.{◌≡◌, true, false, List, ℕ, ◌+◌, ◌-◌, None, Option, Result, Some}
+use Rattle.std.specs.Prelude.{◌≡◌, true, false, List, ℕ, ◌-◌, None, Option, Result, Some}
 use Rattle.std.proofs.Math.Path.{refl}
 use Rattle.object_view.specs.declared.View.{View}
+use Rattle.model.specs.declared.Extent.{Extent}
 use Rattle.model.specs.declared.SectionIndex.{SectionIndex}
 use Rattle.model.specs.declared.SectionRecord.{SectionRecord}
 use Rattle.model.specs.declared.Endianness.{Endianness}
@@ -13,10 +14,8 @@ use Rattle.model.specs.Object.{Section}
 use Rattle.model.specs.Symbols.{first_named}
 use Rattle.model.specs.LicenceVersion.{parse_license, license_number, parse_version, version_number}
 use Rattle.model.specs.Refusals.{no_symbol, refuse, of_number, untargeted, reloc_refusal, licence_refusal, version_refusal}
-use Rattle.stream.specs.Stream.{bytes_at}
-use Rattle.records.specs.View.{gap_of, section_at}
+use Rattle.records.specs.View.{section_at, data_in}
 use Rattle.object.specs.View.{section_from, object_in}
-use Rattle.parse_first.specs.declared.LicenseAt.{LicenseAt}
 use Rattle.parse_first.specs.Named.{number_named}
 
 -- refused for a section, with that number if there is one
@@ -65,13 +64,14 @@ module _ (d t : List ℕ) (v : View) where
 
   -- ---- where the licence stands
 
-  abbrev pub license_in : ℕ → LicenseAt
-  license_in i = LicenseAt.Bytes (v.at.bytes + (section_at d t v i).bytes.at) ((section_at d t v i).bytes.length - 1)
+  -- section i's data without its last byte
+  abbrev pub license_in : ℕ → Extent
+  license_in i = record { at = (section_at d t v i).bytes.at; length = (section_at d t v i).bytes.length - 1 }
 
-  unfoldable pub license_at : LicenseAt
-  license_at = maybe (number_named d t v (ascii "license")) LicenseAt.Gpl license_in
+  unfoldable pub license_at : Option Extent
+  license_at = maybe (number_named d t v (ascii "license")) None (λ i. Some (license_in i))
 
   -- its bytes
-  abbrev pub license_bytes : LicenseAt → List ℕ
-  license_bytes LicenseAt.Gpl = ascii "GPL"
-  license_bytes (LicenseAt.Bytes at n) = bytes_at d (gap_of v) at n
+  abbrev pub license_bytes : Option Extent → List ℕ
+  license_bytes None = ascii "GPL"
+  license_bytes (Some e) = data_in d v e

@@ -7,38 +7,17 @@ use Rattle.std.specs.Bool.{then_some}
 use Rattle.std.proofs.Math.Bool.{true, false, cond}
 use Prim.Native.Nat.{ℕ, zero, suc, ◌+◌, ◌<◌}
 use native.Mathlib.Omega.{arith}
-use Rattle.std.proofs.Math.ListN.{length}
 use Rattle.lists.specs.Tab.{tab}
 use Rattle.object_view.specs.declared.View.{View}
 use Rattle.model.specs.Bytes.{ascii, same, first_in, find, or_else}
 use Rattle.catalogue_laws.specs.Numbers.{up_to, first_in-append}
-use Rattle.stream.specs.Stream.{length-bytes}
-use Rattle.names.specs.Words.{same-lengths}
-use Rattle.records.specs.View.{gap_of, name_in, section_at}
-use Rattle.object.specs.View.{section_from, section_in}
+use Rattle.object.specs.View.{section_in}
 use Rattle.parse_first.specs.declared.Named.{Named}
 
--- what was found, else i where it passes
-unfoldable pub found_or : Option ℕ → Bool → ℕ → Option ℕ
-found_or (Some k) b i = Some k
-found_or None b i = cond b (Some i) None
-
-found-or : (o : Option ℕ) (b : Bool) (i : ℕ) → or_else o (cond b (Some i) None) ≡ found_or o b i
-unfolding found_or
+found-or : (o : Option ℕ) (b : Bool) (i : ℕ) → or_else o (cond b (Some i) None) ≡ option_or o (then_some b i)
 found-or (Some k) b i = refl
-found-or None b i = refl
-
--- std's words for it
-pub or-some : (o : Option ℕ) (b : Bool) (i : ℕ) → option_or o (then_some b i) ≡ found_or o b i
-unfolding found_or
-or-some (Some k) b i = refl
-or-some None true i = refl
-or-some None false i = refl
-
-pub found-still : (f : Option ℕ) (i : ℕ) → found_or f false i ≡ f
-unfolding found_or
-found-still (Some k) i = refl
-found-still None i = refl
+found-or None true i = refl
+found-or None false i = refl
 
 -- ---- the first number below n that passes
 
@@ -98,8 +77,8 @@ module _ (d t : List ℕ) (v : View) where
   abbrev pub with_section : ℕ → Named → Named
   with_section i f =
       record {
-        license = found_or f.license (named_at d t v (ascii "license") i) i;
-        version = found_or f.version (named_at d t v (ascii "version") i) i;
+        license = option_or f.license (then_some (named_at d t v (ascii "license") i) i);
+        version = option_or f.version (then_some (named_at d t v (ascii "version") i) i);
       }
 
   pub named_none : named_below 0 ≡ record { license = None; version = None }
@@ -112,13 +91,3 @@ module _ (d t : List ℕ) (v : View) where
     found-or (first_with_name (named_at d t v (ascii "license")) i) (named_at d t v (ascii "license") i) i,
     found-or (first_with_name (named_at d t v (ascii "version")) i) (named_at d t v (ascii "version") i) i,
   )
-
-  -- both words have 7 bytes
-  pub named_other : (i : ℕ) (f : Named) → ((section_at d t v i).name.length ≡ 7 → ⊥) → with_section i f ≡ f
-  unfolding section_from
-  named_other i f h =
-      let n = name_in d v (section_at d t v i).name in
-      let e : length n ≡ (section_at d t v i).name.length = length-bytes d (gap_of v) (v.at.names + (section_at d t v i).name.at) (section_at d t v i).name.length in
-      let a = same-lengths (ascii "license") n (rw e h) in
-      let b = same-lengths (ascii "version") n (rw e h) in
-      rw (a, b, found-still f.license i, found-still f.version i)

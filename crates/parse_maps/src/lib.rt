@@ -1,104 +1,71 @@
 // `maps` sections: what refuses one, and the numbers of the maps that it lists.
 #![tactic(auto)]
 
-ghost use Rattle.std.specs.Prelude.{◌≡◌, ◌++◌, map, ℕ, ◌+◌, ◌-◌, ◌^◌, ◌<◌, ◌≤◌, length, get_or, take, drop};
-ghost use Rattle.std.proofs.Math.Seq.{slice};
+ghost use Rattle.std.specs.Prelude.{◌≡◌, ◌++◌, map, ℕ, ◌+◌, ◌^◌, ◌<◌, ◌≤◌, length, get_or, drop};
 ghost use Rattle.model.specs.Bytes.{first_in};
 ghost use Rattle.model.specs.Refusals.{map_symbol_refusal, maps_refusal};
+ghost use Rattle.records.specs.Of.{of};
 ghost use Rattle.object.specs.Checked.{checked_of};
-ghost use Rattle.object.specs.Group.{members_in};
+ghost use Rattle.object.specs.Group.{members_in, fault_of};
 ghost use Rattle.object.specs.View.{section_from, symbol_in, object_in};
 ghost use Rattle.parse_maps.specs.Fault.{map_fault, symbol_map_numbers};
 
 use model::{Refusal, SectionRecord, SymbolRecord};
-use object_view::View;
-use records::{MapSource, map_number};
-use stream::wide64;
+use records::{MapSource, Records, map_number};
 
 // What refuses a map's symbol: 10 or 16. No sum is made before 10 is ruled out, so none can wrap.
-fn map_fault(d: &[u8], v: View, s: SectionRecord, y: SymbolRecord) -> Option<u32>
-    ensures { result ≡ map_fault d.now v s y }
+#[tactic(auto, using(std::proofs::lemmas::Bool::Decides::nat_tests, stream::specs::Laws::part_bytes), unfolding(crate::specs::Fault::map_fault))]
+fn parse_map(records: Records, s: SectionRecord, y: SymbolRecord) -> Result<(), Refusal>
+    ensures { result ≡ checked_of (fault_of (map_fault records.entry.bytes.now records.entry.view s y) s.index y.index) }
 {
-    let length = wide64(s.bytes.length);
-    if length < y.address {
-        return Some(10);
+    let length = u64::from(s.bytes.length);
+    if length < y.address || length - y.address < y.size {
+        return object::of_symbol(10, s, y);
     }
-    if length - y.address < y.size {
-        return Some(10);
-    }
-    let at = records::data_place(v, s.bytes) + y.address as usize;
-    let def = map_def::parse_map_def(records::stream(d, v).span(at, y.size as usize));
+    let data = records.data(s.bytes);
+    let start = data.at + y.address as usize;
+    let def = map_def::parse_map_def(data.stream.span(start, y.size as usize));
     if map_def::invalid_map_definition(y.size, def) {
-        Some(16)
-    } else {
-        None
+        return object::of_symbol(16, s, y);
     }
+    Ok(())
 }
 
 // The first refusal of a symbol of a group.
-pub fn map_symbols(
-    d: &[u8],
-    t: &[u32],
-    v: View,
-    s: SectionRecord,
-    symbols: &[u32],
-    lo: usize,
-    hi: usize,
-) -> Result<(), Refusal>
-    requires { hi ≤ length symbols.now }
+#[tactic(auto, using(crate::proofs::Fault::symbols))]
+pub fn map_symbols(records: Records, s: SectionRecord, group: &[u32]) -> Result<(), Refusal>
     ensures { result
         ≡ checked_of
-        (first_in (map_symbol_refusal (section_from d.now t.now v s))
-        (map (symbol_in d.now t.now v) (slice lo hi symbols.now))) }
+        (first_in (map_symbol_refusal (of section_from records.entry s))
+        (map (of symbol_in records.entry) group.now)) }
 {
-    for i in lo..hi {
-        let y = records::symbol(d, t, v, symbols[i]);
-        if let Some(fault) = map_fault(d, v, s, y) {
-            return object::of_symbol(fault, s, y);
-        }
+    for j in group {
+        parse_map(records, s, records.symbol(*j))?;
     }
     Ok(())
 }
 
 // What refuses a `maps` section; the group is that of its symbols.
-pub fn parse_maps_section(
-    d: &[u8],
-    t: &[u32],
-    v: View,
-    s: SectionRecord,
-    symbols: &[u32],
-    lo: usize,
-    hi: usize,
-) -> Result<(), Refusal>
-    requires { (hi ≤ length symbols.now) × (slice lo hi symbols.now ≡ members_in d.now t.now v s) }
-    ensures { result ≡ checked_of (maps_refusal (object_in d.now t.now v) (section_from d.now t.now v s)) }
+#[tactic(auto, using(crate::specs::Refused::refused_by_group))]
+pub fn parse_maps_section(records: Records, s: SectionRecord, group: &[u32]) -> Result<(), Refusal>
+    requires { group.now ≡ of members_in records s }
+    ensures { result ≡ checked_of (maps_refusal (of object_in records.entry) (of section_from records.entry s)) }
 {
-    if hi <= lo {
-        object::of_section(9, s)
-    } else {
-        map_symbols(d, t, v, s, symbols, lo, hi)
+    if group.is_empty() {
+        return object::of_section(9, s);
     }
+    map_symbols(records, s, group)
 }
 
-// Appends the numbers of the maps that a group's symbols are to the first w of out.
-pub fn map_numbers(
-    sections: u32,
-    symbols: &[u32],
-    lo: usize,
-    hi: usize,
-    out: &mut [u32],
-    w: usize,
-) -> usize
-    requires { (lo ≤ hi) × (hi ≤ length symbols.now) × (w + (hi - lo) ≤ length out.old)
-        × ((k : ℕ) → lo ≤ k → k < hi → sections + get_or symbols.now k 0 < 2 ^ 32) }
-    ensures { (result ≡ w + length (symbol_map_numbers sections (slice lo hi symbols.now)))
-        × (out.new ≡ take w out.old ++ (symbol_map_numbers sections (slice lo hi symbols.now) ++ drop result out.old)) }
+// The numbers of the maps that a group's symbols are, at the front of out; how many there are.
+pub fn map_numbers(sections: u32, group: &[u32], out: &mut [u32]) -> usize
+    requires { (length group.now ≤ length out.old)
+        × ((k : ℕ) → k < length group.now → sections + get_or group.now k 0 < 2 ^ 32) }
+    ensures { (result ≡ length (symbol_map_numbers sections group.now))
+        × (out.new ≡ symbol_map_numbers sections group.now ++ drop result out.old) }
 {
-    let mut n = w;
-    for i in lo..hi {
-        let j = symbols[i];
-        out[n] = map_number(sections, MapSource::Symbol(j));
-        n += 1;
+    for (k, j) in group.iter().enumerate() {
+        out[k] = map_number(sections, MapSource::Symbol(*j));
     }
-    n
+    group.len()
 }

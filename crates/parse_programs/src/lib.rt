@@ -1,114 +1,77 @@
 // Program sections: what refuses one, and the numbers of the programs that it lists.
 #![tactic(auto)]
 
-ghost use Rattle.std.specs.Prelude.{◌≡◌, ◌++◌, map, ◌+◌, ◌-◌, ◌<◌, ◌≤◌, length, take, drop};
-ghost use Rattle.std.proofs.Math.Seq.{slice};
+ghost use Rattle.std.specs.Prelude.{◌≡◌, ◌++◌, map, ◌≤◌, length, drop};
 ghost use Rattle.model.specs.Bytes.{first_in};
 ghost use Rattle.model.specs.Refusals.{program_symbol_refusal, program_refusal};
+ghost use Rattle.records.specs.Of.{of};
 ghost use Rattle.object.specs.Checked.{checked_of};
-ghost use Rattle.object.specs.Group.{members_in, programs_among};
+ghost use Rattle.object.specs.Group.{members_in, programs_among, fault_of};
 ghost use Rattle.object.specs.View.{section_from, symbol_in, object_in};
 ghost use Rattle.parse_programs.specs.Fault.{program_fault};
 
-use model::{ProgramSectionError, Refusal, SectionRecord, SymbolRecord};
-use object_view::View;
-use stream::wide64;
+use model::{Refusal, SectionRecord, SymbolRecord};
+use records::Records;
 
 // What refuses a program's symbol: 10 or 15. No sum is made, so none can wrap.
-fn parse_program(s: SectionRecord, y: SymbolRecord) -> Option<u32>
-    ensures { result ≡ program_fault s y }
+#[tactic(auto, using(std::proofs::lemmas::Bool::Decides::nat_tests), unfolding(crate::specs::Fault::program_fault))]
+fn parse_program(s: SectionRecord, y: SymbolRecord) -> Result<(), Refusal>
+    ensures { result ≡ checked_of (fault_of (program_fault s y) s.index y.index) }
 {
-    let length = wide64(s.bytes.length);
+    let length = u64::from(s.bytes.length);
     let start = object::program_offset(s, y);
-    if y.address < s.address {
-        return Some(10);
-    }
-    if length < start {
-        return Some(10);
-    }
-    if length - start < y.size {
-        return Some(10);
+    if y.address < s.address || length < start || length - start < y.size {
+        return object::of_symbol(10, s, y);
     }
     if insn::invalid_program_code(y.size) {
-        Some(15)
-    } else {
-        None
+        return object::of_symbol(15, s, y);
     }
+    Ok(())
 }
 
 // The first refusal of a program among the symbols of a group.
-pub fn program_symbols(
-    d: &[u8],
-    t: &[u32],
-    v: View,
-    s: SectionRecord,
-    symbols: &[u32],
-    lo: usize,
-    hi: usize,
-) -> Result<(), Refusal>
-    requires { hi ≤ length symbols.now }
+#[tactic(auto, using(crate::proofs::Fault::symbols))]
+pub fn program_symbols(records: Records, s: SectionRecord, group: &[u32]) -> Result<(), Refusal>
     ensures { result
         ≡ checked_of
-        (first_in (program_symbol_refusal (section_from d.now t.now v s))
-        (map (symbol_in d.now t.now v) (programs_among d.now t.now v (slice lo hi symbols.now)))) }
+        (first_in (program_symbol_refusal (of section_from records.entry s))
+        (map (of symbol_in records.entry) (of programs_among records.entry group.now))) }
 {
-    for i in lo..hi {
-        let y = records::symbol(d, t, v, symbols[i]);
+    for j in group {
+        let y = records.symbol(*j);
         if object::is_program(y) {
-            if let Some(fault) = parse_program(s, y) {
-                return object::of_symbol(fault, s, y);
-            }
+            parse_program(s, y)?;
         }
     }
     Ok(())
 }
 
 // What refuses a program section; the group is that of its symbols.
-pub fn program_refusal(
-    d: &[u8],
-    t: &[u32],
-    v: View,
-    s: SectionRecord,
-    symbols: &[u32],
-    lo: usize,
-    hi: usize,
-) -> Result<(), Refusal>
-    requires { (hi ≤ length symbols.now) × (slice lo hi symbols.now ≡ members_in d.now t.now v s) }
-    ensures { result ≡ checked_of (program_refusal (object_in d.now t.now v) (section_from d.now t.now v s)) }
+#[tactic(auto, using(crate::specs::Refused::refused_by_group))]
+pub fn program_refusal(records: Records, s: SectionRecord, group: &[u32]) -> Result<(), Refusal>
+    requires { group.now ≡ of members_in records s }
+    ensures { result ≡ checked_of (program_refusal (of object_in records.entry) (of section_from records.entry s)) }
 {
-    match program_section::from_str(records::name(d, v, s.name)) {
-        Err(_) => object::of_section(8, s),
-        Ok(_) => {
-            if hi <= lo {
-                object::of_section(9, s)
-            } else {
-                program_symbols(d, t, v, s, symbols, lo, hi)
-            }
-        }
+    if program_section::from_str(records.name(s.name)).is_err() {
+        return object::of_section(8, s);
     }
+    if group.is_empty() {
+        return object::of_section(9, s);
+    }
+    program_symbols(records, s, group)
 }
 
-// Appends the numbers of a group's programs to the first w of out.
-pub fn program_numbers(
-    d: &[u8],
-    t: &[u32],
-    v: View,
-    symbols: &[u32],
-    lo: usize,
-    hi: usize,
-    out: &mut [u32],
-    w: usize,
-) -> usize
-    requires { (lo ≤ hi) × (hi ≤ length symbols.now) × (w + (hi - lo) ≤ length out.old) }
-    ensures { (result ≡ w + length (programs_among d.now t.now v (slice lo hi symbols.now)))
-        × (out.new
-        ≡ take w out.old ++ (programs_among d.now t.now v (slice lo hi symbols.now) ++ drop result out.old)) }
+// The numbers of a group's programs at the front of out; how many there are.
+#[tactic(auto, using(crate::proofs::Programs::programs_none))]
+pub fn program_numbers(records: Records, group: &[u32], out: &mut [u32]) -> usize
+    requires { length group.now ≤ length out.old }
+    ensures { (result ≡ length (of programs_among records.entry group.now))
+        × (out.new ≡ of programs_among records.entry group.now ++ drop result out.old) }
 {
-    let mut n = w;
-    for i in lo..hi {
-        let j = symbols[i];
-        if object::is_program(records::symbol(d, t, v, j)) {
-            out[n] = j;
+    let mut n = 0;
+    for j in group {
+        if object::is_program(records.symbol(*j)) {
+            out[n] = *j;
             n += 1;
         }
     }

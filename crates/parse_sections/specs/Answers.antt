@@ -1,6 +1,6 @@
--- What parsing one section answers: why the object is refused, or how far the numbers of its functions reach.
-use Rattle.std.specs.Prelude.{◌≡◌, refl, true, false, cond, List, [], ◌++◌, ℕ, ◌+◌, length, take, drop, Err, None, Ok, Option, Result, Some, ⊤}
-use Rattle.std.proofs.Common.{sym, ap, ◌∙◌, add-zero, take-append-drop}
+-- What parsing one section answers: why the object is refused, or how many functions it has.
+use Rattle.std.specs.Prelude.{◌≡◌, refl, true, false, cond, List, [], ◌++◌, ℕ, length, drop, Err, None, Ok, Option, Result, Some, ⊤}
+use Rattle.std.proofs.Common.{sym, ap, ◌∙◌}
 use borrow.Author.Tests.{eqb-true}
 use Rattle.lists.specs.Tab.{tab}
 use Rattle.lists.specs.Tests.{not_some}
@@ -22,27 +22,26 @@ use Rattle.catalogue_numbers.specs.Numbers.{functions_from}
 use Rattle.parse_text.specs.Parsed as text
 use Rattle.parse_text.specs.Parsed.{refusal, parsed_text, numbers_laid, numbers-of-walk}
 
--- a check's answer, of a section whose functions end at n
-abbrev pub checked_text : Result ⊤ Refusal → ℕ → Result ℕ Refusal
-checked_text (Ok tt) n = Ok n
-checked_text (Err r) n = Err r
+-- a check's answer, of a section without functions
+abbrev pub checked_text : Result ⊤ Refusal → Result ℕ Refusal
+checked_text (Ok tt) = Ok 0
+checked_text (Err r) = Err r
 
--- the answer for a refusal or none, and the numbers that are laid into out₀ from place w on where there is none
-pub record Answers (q : Option Refusal) (ns out₀ : List ℕ) (w : ℕ) (r : Result ℕ Refusal) (out : List ℕ) : Type 0 where
-  pub answer : r ≡ parsed_text q (w + length ns)
-  pub listed : q ≡ None → out ≡ numbers_laid out₀ w ns
+-- the answer for a refusal or none, and the numbers that are laid at the front of out₀ where there is none
+pub record Answers (q : Option Refusal) (ns out₀ : List ℕ) (r : Result ℕ Refusal) (out : List ℕ) : Type 0 where
+  pub answer : r ≡ parsed_text q (length ns)
+  pub listed : q ≡ None → out ≡ numbers_laid out₀ ns
 
-pub answers-refused : (q : Option Refusal) (x : Refusal) (ns out₀ out : List ℕ) (w : ℕ) → q ≡ Some x → Answers q ns out₀ w (Err x) out
-answers-refused q x ns out₀ out w e = record { answer = rw e; listed = λ f. not_some x (sym e ∙ f) }
+pub answers-refused : (q : Option Refusal) (x : Refusal) (ns out₀ out : List ℕ) → q ≡ Some x → Answers q ns out₀ (Err x) out
+answers-refused q x ns out₀ out e = record { answer = rw e; listed = λ f. not_some x (sym e ∙ f) }
 
-pub answers-fine : (q : Option Refusal) (ns out₀ out : List ℕ) (w n : ℕ) → q ≡ None → n ≡ w + length ns → out ≡ take w out₀ ++ (ns ++ drop n out₀)
-    → Answers q ns out₀ w (Ok n) out
-answers-fine q ns out₀ out w n e c f = record { answer = rw (e, c); listed = λ z. f ∙ rw c }
+pub answers-fine : (q : Option Refusal) (ns out₀ out : List ℕ) (n : ℕ) → q ≡ None → n ≡ length ns → out ≡ ns ++ drop n out₀ → Answers q ns out₀ (Ok n) out
+answers-fine q ns out₀ out n e c f = record { answer = rw (e, c); listed = λ z. f ∙ rw c }
 
 -- a section without functions
-pub answers-none : (q : Option Refusal) (out₀ : List ℕ) (w : ℕ) → Answers q [] out₀ w (checked_text (checked_of q) w) out₀
-answers-none None out₀ w = record { answer = rw add-zero; listed = λ z. rw add-zero (sym (take-append-drop w out₀)) }
-answers-none (Some x) out₀ w = record { answer = refl; listed = λ z. not_some x z }
+pub answers-none : (q : Option Refusal) (out₀ : List ℕ) → Answers q [] out₀ (checked_text (checked_of q)) out₀
+answers-none None out₀ = record { answer = refl; listed = λ z. refl }
+answers-none (Some x) out₀ = record { answer = refl; listed = λ z. not_some x z }
 
 module _ (d t : List ℕ) (v : View) (s : SectionRecord) where
   abbrev o : Object
@@ -61,51 +60,51 @@ module _ (d t : List ℕ) (v : View) (s : SectionRecord) where
       cond (is_kind Kind.Program (kind_of sec)) (programs_among d t v (members_in d t v s))
       (cond (is_kind Kind.Text (kind_of sec)) walked_in [])
 
-  pub answers-text : (out₀ : List ℕ) (w : ℕ) (r : Result ℕ Refusal) (out : List ℕ) → text.TextParsed d t v s out₀ w r out → Answers (text_refusal o sec) walked_in out₀ w r out
-  answers-text out₀ w r out p = record { answer = go (text_refusal o sec) refl; listed = λ e. p.numbers ∙ ap (numbers_laid out₀ w) (numbers-of-walk d t v s e) }
+  pub answers-text : (out₀ : List ℕ) (r : Result ℕ Refusal) (out : List ℕ) → text.TextParsed d t v s out₀ r out → Answers (text_refusal o sec) walked_in out₀ r out
+  answers-text out₀ r out p = record { answer = go (text_refusal o sec) refl; listed = λ e. p.numbers ∙ ap (numbers_laid out₀) (numbers-of-walk d t v s e) }
     where
-      go : (q : Option Refusal) → text_refusal o sec ≡ q → r ≡ parsed_text q (w + length walked_in)
+      go : (q : Option Refusal) → text_refusal o sec ≡ q → r ≡ parsed_text q (length walked_in)
       go None e = p.answer ∙ rw (e, numbers-of-walk d t v s e)
       go (Some x) e = p.answer ∙ rw e
 
-  module _ (out₀ : List ℕ) (w : ℕ) (r : Result ℕ Refusal) (out : List ℕ) where
-    pub kind-program : kind_of sec ≡ Kind.Program → Answers (program_refusal o sec) (programs_among d t v (members_in d t v s)) out₀ w r out
-        → Answers (kind_refusal o sec) functions_by out₀ w r out
+  module _ (out₀ : List ℕ) (r : Result ℕ Refusal) (out : List ℕ) where
+    pub kind-program : kind_of sec ≡ Kind.Program → Answers (program_refusal o sec) (programs_among d t v (members_in d t v s)) out₀ r out
+        → Answers (kind_refusal o sec) functions_by out₀ r out
     unfolding kind_refusal functions_by
     kind-program e a = rw e a
 
-    pub kind-text : kind_of sec ≡ Kind.Text → Answers (text_refusal o sec) walked_in out₀ w r out → Answers (kind_refusal o sec) functions_by out₀ w r out
+    pub kind-text : kind_of sec ≡ Kind.Text → Answers (text_refusal o sec) walked_in out₀ r out → Answers (kind_refusal o sec) functions_by out₀ r out
     unfolding kind_refusal functions_by
     kind-text e a = rw e a
 
     -- 4, before what its kind is refused for
-    pub section-kind : is_kind Kind.BtfExt (kind_of sec) ≡ false → untargeted sec.relocs ≡ false → Answers (kind_refusal o sec) functions_by out₀ w r out
-        → Answers (section_refusal o sec) functions_by out₀ w r out
+    pub section-kind : is_kind Kind.BtfExt (kind_of sec) ≡ false → untargeted sec.relocs ≡ false → Answers (kind_refusal o sec) functions_by out₀ r out
+        → Answers (section_refusal o sec) functions_by out₀ r out
     unfolding section_refusal reloc_refusal
     section-kind e u a = rw (e, u) a
 
-  module _ (out₀ : List ℕ) (w : ℕ) where
-    pub kind-maps : kind_of sec ≡ Kind.Maps → Answers (kind_refusal o sec) functions_by out₀ w (checked_text (checked_of (maps_refusal o sec)) w) out₀
+  module _ (out₀ : List ℕ) where
+    pub kind-maps : kind_of sec ≡ Kind.Maps → Answers (kind_refusal o sec) functions_by out₀ (checked_text (checked_of (maps_refusal o sec))) out₀
     unfolding kind_refusal functions_by
-    kind-maps e = rw e (answers-none (maps_refusal o sec) out₀ w)
+    kind-maps e = rw e (answers-none (maps_refusal o sec) out₀)
 
-    pub kind-btf-maps : kind_of sec ≡ Kind.BtfMaps → Answers (kind_refusal o sec) functions_by out₀ w (Err (refusal 17 s.index no_symbol)) out₀
+    pub kind-btf-maps : kind_of sec ≡ Kind.BtfMaps → Answers (kind_refusal o sec) functions_by out₀ (Err (refusal 17 s.index no_symbol)) out₀
     unfolding kind_refusal functions_by section_from
-    kind-btf-maps e = rw e (answers-none (Some (refusal 17 s.index no_symbol)) out₀ w)
+    kind-btf-maps e = rw e (answers-none (Some (refusal 17 s.index no_symbol)) out₀)
 
     pub kind-other : is_kind Kind.Program (kind_of sec) ≡ false → is_kind Kind.Maps (kind_of sec) ≡ false → is_kind Kind.Text (kind_of sec) ≡ false
-        → is_kind Kind.BtfMaps (kind_of sec) ≡ false → Answers (kind_refusal o sec) functions_by out₀ w (Ok w) out₀
+        → is_kind Kind.BtfMaps (kind_of sec) ≡ false → Answers (kind_refusal o sec) functions_by out₀ (Ok 0) out₀
     unfolding kind_refusal functions_by
-    kind-other p m x b = rw (p, m, x, b) (answers-none None out₀ w)
+    kind-other p m x b = rw (p, m, x, b) (answers-none None out₀)
 
-    pub section-skipped : is_kind Kind.BtfExt (kind_of sec) ≡ true → Answers (section_refusal o sec) functions_by out₀ w (Ok w) out₀
+    pub section-skipped : is_kind Kind.BtfExt (kind_of sec) ≡ true → Answers (section_refusal o sec) functions_by out₀ (Ok 0) out₀
     unfolding section_refusal functions_by
-    section-skipped e = let n : 9 ≡ kind_number (kind_of sec) = eqb-true 9 (kind_number (kind_of sec)) e in rw (← n) (answers-none None out₀ w)
+    section-skipped e = let n : 9 ≡ kind_number (kind_of sec) = eqb-true 9 (kind_number (kind_of sec)) e in rw (← n) (answers-none None out₀)
 
     pub section-untargeted : is_kind Kind.BtfExt (kind_of sec) ≡ false → untargeted sec.relocs ≡ true
-        → Answers (section_refusal o sec) functions_by out₀ w (Err (refusal 4 s.index no_symbol)) out₀
+        → Answers (section_refusal o sec) functions_by out₀ (Err (refusal 4 s.index no_symbol)) out₀
     unfolding section_refusal reloc_refusal section_from
-    section-untargeted e u = answers-refused _ (refusal 4 s.index no_symbol) functions_by out₀ out₀ w (rw (e, u))
+    section-untargeted e u = answers-refused _ (refusal 4 s.index no_symbol) functions_by out₀ out₀ (rw (e, u))
 
 -- by number
 pub functions-by : (d t : List ℕ) (v : View) (i : ℕ) → functions_from d t v i ≡ functions_by d t v (section_at d t v i)

@@ -1,8 +1,9 @@
 -- Numbers that a loop over sections puts at the front of a list.
 use Rattle.std.specs.Prelude.{◌≡◌, List, ◌++◌, ℕ, ◌+◌, ◌-◌, ◌≤◌, min, length, take, drop}
 use Rattle.std.proofs.Common.{sym, ap, ◌∙◌, append_assoc, arith, length-append, length-take, length-drop, take-append-drop, length-take-le, take-take, take_at, drop_at, drop-drop}
-use Rattle.std.proofs.Math.Seq.{slice, length_front}
-use Rattle.std.proofs.lemmas.List.{take-append-le}
+use Rattle.std.proofs.Math.Seq.{length_front}
+use Rattle.std.proofs.lemmas.List.{take-append-le, drop-append-le}
+use Rattle.std.proofs.lemmas.Slice.{between_is}
 use Rattle.lists.specs.Tab.{rows, rows_none, rows_more}
 use Rattle.catalogue_laws.specs.Groups.{LaidFrom}
 
@@ -39,12 +40,17 @@ module _ (f : ℕ → List ℕ) (i : ℕ) {n : ℕ} {out : List ℕ} (c : Candid
       record { count = rw (more, len); front = ap (take m) all ∙ take_at (rows f i ++ xs) (drop m out) m len ∙ sym more }
 
   -- what that section listed
-  pub candidates-own : (out₂ : List ℕ) (m : ℕ) → Candidates (rows f (i + 1)) m out₂ → slice n m out₂ ≡ f i
-  candidates-own out₂ m b = ap (drop n) (b.front ∙ rows_more f i) ∙ drop_at (rows f i) (f i) n (sym c.count)
+  pub candidates-own : (out₂ : List ℕ) (m : ℕ) → Candidates (rows f (i + 1)) m out₂ → take (m - n) (drop n out₂) ≡ f i
+  candidates-own out₂ m b = between_is out₂ n m ∙ ap (drop n) (b.front ∙ rows_more f i) ∙ drop_at (rows f i) (f i) n (sym c.count)
 
--- numbers copied into a part that is lent, from `at` to e
-pub copied : (at e : ℕ) (xs out out₂ : List ℕ) → e ≡ at + length xs → out₂ ≡ take at out ++ (xs ++ drop (e - at) (drop at out)) → LaidFrom at e xs out out₂
-copied at e xs out out₂ h q = let z : at + (e - at) ≡ e = omega arith in record { count = h; held = q ∙ rw (drop-drop (e - at) at out, z) }
+-- r numbers xs laid at the front of a part that is lent, k long from place n on
+pub laid_behind : (n k r : ℕ) (xs out part : List ℕ) → r ≡ length xs → part ≡ xs ++ drop r (take k (drop n out)) → length part ≡ length (take k (drop n out))
+    → LaidFrom n (n + r) xs out (take n out ++ (part ++ drop k (drop n out)))
+laid_behind n k r xs out part e p l =
+    let lent = take k (drop n out) in
+    let few : r ≤ length lent = omega (arith, ap length p, length-append xs (drop r lent)) in
+    let back : drop r lent ++ drop k (drop n out) ≡ drop (n + r) out = sym (drop-append-le r lent (drop k (drop n out)) few) ∙ ap (drop r) (take-append-drop k (drop n out)) ∙ drop-drop r n out in
+    record { count = rw e; held = rw (p, append_assoc, back) }
 
 -- how long a part is that is lent, from a to e
 pub part_length : (a e n : ℕ) (l : List ℕ) → e ≡ a + n → e ≤ length l → length (take (e - a) (drop a l)) ≡ n

@@ -1,13 +1,13 @@
 -- The group of one section's symbols, and its defined text in order of address.
-use Rattle.std.specs.Prelude.{◌≡◌, Bool, cond, List, [], ◌∷◌, ℕ, ◌+◌, ◌-◌, ◌<◌, ◌≤◌, take, drop, None, Some}
+use Rattle.std.specs.Prelude.{◌≡◌, Bool, cond, List, [], ◌∷◌, ℕ, ◌+◌, ◌-◌, ◌<◌, ◌≤◌, get_or, take, drop, None, Some}
 use Rattle.std.proofs.Math.Path.{refl, sym, ap}
-use Rattle.std.proofs.Common.{◌∙◌, arith, length-take-le, take-add, take_all, drop_at}
+use Rattle.std.proofs.Common.{◌∙◌, arith, take_all, length-drop}
 use Rattle.std.proofs.Math.Bool.{true, false}
 use borrow.Author.Tests.{eqb-false, ne_eqb, eqb-true}
 use Rattle.std.proofs.Math.Dec.{eqb}
 use Rattle.std.proofs.Math.ListN.{length}
-use Rattle.std.proofs.Math.Seq.{slice, length-slice}
-use Rattle.lists.specs.Slice.{slice-none}
+use Rattle.std.specs.List.{prefix_len}
+use Rattle.std.proofs.lemmas.List.Sums.{prefix_len-le-length}
 use Rattle.lists.specs.Tab.{tab, length-tab}
 use Rattle.object_view.specs.declared.View.{View}
 use Rattle.object_view.specs.NoIndex.{no_index, is_none}
@@ -22,23 +22,21 @@ use Rattle.records.specs.View.{section_at, symbol_at}
 use Rattle.records.specs.Readable.{SectionsRise}
 use Rattle.catalogue_laws.specs.ByNumber.{raw_section, is_defined_text, members, text_members, text_order}
 use Rattle.catalogue_laws.specs.Numbers.{up_to, keep-ext}
-use Rattle.catalogue_laws.specs.SectionsPrograms.{All}
+use Rattle.catalogue_laws.specs.Groups.{all-below, all-at}
+use Rattle.catalogue_laws.specs.SectionsPrograms.{All, all-kept}
 use Rattle.catalogue_laws.specs.Sorted.{keep-of-sorted}
 use Rattle.catalogue_laws.specs.SortedGroups.{by_section, by_place, members-raw, members-group, text-group}
 use Rattle.object.specs.View.{section_from, symbol_from, section_in, symbol_in}
 use Rattle.object.specs.Group.{members_in}
 use Rattle.record_keys.specs.declared.By.{By}
 use Rattle.record_keys.specs.Keys.{key_of}
-use Rattle.symbol_groups.specs.Cut.{Start, End, raw-is}
-use Rattle.symbol_groups.specs.Group.{place-keys, section-climbs, none_passed, the-group, all-passed}
+use Rattle.symbol_groups.specs.Cut.{lies_below, lies_at, raw-is}
+use Rattle.symbol_groups.specs.Group.{place-keys, section-climbs, none-passed, the-group, all-passed}
 use Rattle.parse_text.specs.Group.{text_group, text_in}
 
--- a part that is lent, from lo up to hi
-pub part_slice : {A : Type 0} (lo hi : ℕ) (l : List A) → lo ≤ hi → hi ≤ length l → take (hi - lo) (drop lo l) ≡ slice lo hi l
-part_slice lo hi l h k =
-    let e : lo + (hi - lo) ≡ hi = omega arith in
-    let n : length (take lo l) ≡ lo = length-take-le lo l (omega arith) in
-    sym (ap (λ m. drop lo (take m l)) (sym e) ∙ ap (drop lo) (take-add lo (hi - lo) l) ∙ drop_at (take lo l) (take (hi - lo) (drop lo l)) lo n)
+-- the rest of a list, lent
+pub rest_is : {A : Type 0} (from : ℕ) (l : List A) → take (length l - from) (drop from l) ≡ drop from l
+rest_is from l = take_all (length l - from) (drop from l) (rw length-drop (omega arith))
 
 none_kept : (l : List ℕ) → keep (λ j. false) l ≡ []
 unfolding keep
@@ -58,7 +56,7 @@ module _ (d t : List ℕ) (v : View) where
     pub after : from ≤ lo
     pub upward : lo ≤ hi
     pub within : hi ≤ length order
-    pub group : slice lo hi order ≡ members_in d t v s
+    pub group : take (hi - lo) (drop lo order) ≡ members_in d t v s
     pub passed : (k : ℕ) → s.index.0 < k → SymbolsPassed order hi k
 
   -- i sections are passed, and their symbols end at `from`
@@ -89,34 +87,45 @@ module _ (d t : List ℕ) (v : View) where
       out i = go i (is_none i.0) refl
 
   module _ (s : SectionRecord) (order : List ℕ) (from lo : ℕ) (e : order ≡ sorted (by_section (symbol_in d t v)) (up_to v.symbols))
-      (p : SymbolsPassed order from s.index.0) (a : Start d t v order from s.index.0 lo) where
+      (p : SymbolsPassed order from s.index.0) (w : from ≤ length order) (a : lo ≡ from + prefix_len (lies_below d t v s.index.0) (drop from order)) where
+    inside : lo ≤ length order
+    inside = omega (arith, prefix_len-le-length (lies_below d t v s.index.0) (drop from order), length-drop from order)
+
     pub group-none : is_none s.index.0 ≡ true → GroupOf s order from lo lo
     group-none q =
+        let z : lo - lo ≡ 0 = omega arith in
         record {
-          after = a.after;
+          after = omega arith;
           upward = omega arith;
-          within = a.within;
-          group = slice-none lo lo order (omega arith) ∙ sym (no-members s q);
-          passed = λ k l. none_passed key order s.index.0 k from lo (omega arith) a.after p a.below;
+          within = inside;
+          group = rw z (sym (no-members s q));
+          passed = λ k l. rw a (none-passed key s.index.0 order from p k (omega arith));
         }
 
-    pub group-some : (hi : ℕ) → is_none s.index.0 ≡ false → End d t v order lo s.index.0 hi → GroupOf s order from lo hi
+    pub group-some : (hi : ℕ) → is_none s.index.0 ≡ false → hi ≡ lo + prefix_len (lies_at d t v s.index.0) (drop lo order) → GroupOf s order from lo hi
     unfolding section_from
     group-some hi q b =
-        let c = section-climbs d t v order e in
-        let g : keep (λ j. eqb s.index.0 (key j)) order ≡ slice lo hi order =
-        the-group key order s.index.0 from lo hi c p a.after b.after a.below a.stops b.equal b.stops in
+        let g : keep (λ j. eqb s.index.0 (key j)) order ≡ take (prefix_len (lies_at d t v s.index.0) (drop lo order)) (drop lo order) =
+        the-group key s.index.0 order from p lo a (section-climbs d t v order e) in
         let r : keep (λ j. eqb s.index.0 (key j)) order ≡ keep (λ j. eqb s.index.0 (raw_section (symbol_in d t v j))) order =
         keep-ext _ _ order (λ j. ap (eqb s.index.0) (sym (raw-is d t v (symbol_at d t v j)))) in
         let m : keep (λ j. eqb s.index.0 (raw_section (symbol_in d t v j))) order ≡ members_in d t v s =
         rw e (members-group v.order (tab (section_in d t v) v.sections) (symbol_in d t v) v.symbols (section_from d t v s) (eqb-false s.index.0 no_index q)) in
+        let n : hi - lo ≡ prefix_len (lies_at d t v s.index.0) (drop lo order) = omega arith in
         record {
-          after = a.after;
-          upward = b.after;
-          within = b.within;
-          group = sym g ∙ r ∙ m;
-          passed = all-passed key order s.index.0 from lo hi c p a.after b.after a.below a.stops b.equal b.stops;
+          after = omega arith;
+          upward = omega arith;
+          within = omega (arith, inside, prefix_len-le-length (lies_at d t v s.index.0) (drop lo order), length-drop lo order);
+          group = rw n (sym g ∙ r ∙ m);
+          passed = λ k l. rw b (all-passed key s.index.0 order from p lo a k l);
         }
+
+  -- a number of a group is a symbol's
+  pub member-below : (s : SectionRecord) (group : List ℕ) (k : ℕ) → group ≡ members_in d t v s → k < length group → get_or group k 0 < v.symbols
+  unfolding members
+  member-below s group k e =
+      all-at (λ j. j < v.symbols) group k
+      (rw e (all-kept (λ j. j < v.symbols) (λ j. lies_in (section_from d t v s).index (symbol_in d t v j).section) (up_to v.symbols) (all-below v.symbols)))
 
   -- ---- a section's defined text in order of address
 
@@ -148,10 +157,8 @@ module _ (d t : List ℕ) (v : View) where
     text-any false q = text-some (λ r. eqb-false s.index.0 no_index q (sym index_is ∙ r))
 
     -- a copy of the group, sorted by address
-    pub text-ready : (order y : List ℕ) (lo hi : ℕ) → slice lo hi order ≡ members_in d t v s → hi ≤ length order
-        → y ≡ sorted (by_key (key_of By.SymbolAddress d t v)) (slice lo hi order) → text_group d t v y 0 (hi - lo) ≡ text_in d t v sec
+    pub text-ready : (group y : List ℕ) → group ≡ members_in d t v s → y ≡ sorted (by_key (key_of By.SymbolAddress d t v)) group → text_group d t v y ≡ text_in d t v sec
     unfolding text_group
-    text-ready order y lo hi g w q =
-        let l : length y ≡ hi - lo = ap length q ∙ rw (length-sorted, length-slice lo hi order w) in
-        ap (keep (λ j. is_defined_text (symbol_in d t v j))) (take_all (hi - lo) y (omega arith) ∙ q ∙ (λ k. sorted (by_key (place-keys d t v k)) (g k)))
+    text-ready group y g q =
+        ap (keep (λ j. is_defined_text (symbol_in d t v j))) (q ∙ (λ k. sorted (by_key (place-keys d t v k)) (g k)))
         ∙ text-any (is_none s.index.0) refl

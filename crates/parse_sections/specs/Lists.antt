@@ -1,5 +1,5 @@
 -- What one section lists for each table, by its kind.
-use Rattle.std.specs.Prelude.{◌≡◌, Bool, ℕ, ◌+◌, ◌-◌, ◌^◌, ◌<◌, ◌≤◌, length, get_or}
+use Rattle.std.specs.Prelude.{◌≡◌, Bool, ℕ, ◌+◌, ◌^◌, ◌<◌, ◌≤◌, length, get_or}
 use Rattle.std.proofs.Math.Path.{refl}
 use Rattle.std.proofs.Math.Bool.{true, false, cond}
 use mathlib.Core.List.{List, [], ◌∷◌, map}
@@ -81,22 +81,19 @@ module _ (d t : List ℕ) (v : View) (i : ℕ) where
 
 -- ---- the lists that it is appended to
 
--- n numbers stand in each list; its symbols are those of order from lo to hi, and its functions, listed already, end at m
-pub record RoomFor (count : ℕ) (order : List ℕ) (lo hi : ℕ) (sections programs functions maps : List ℕ) (n : Counts) (m : ℕ) : Type 0 where
-  pub upward : lo ≤ hi
-  pub within : hi ≤ length order
-  pub small : (k : ℕ) → lo ≤ k → k < hi → count + get_or order k 0 < 2 ^ 32
-  pub grown : n.functions ≤ m
-  pub inside : m ≤ length functions
+-- n numbers stand in each list; group has its symbols, and functions its functions
+pub record RoomFor (count : ℕ) (group sections programs functions maps : List ℕ) (n : Counts) : Type 0 where
+  pub small : (k : ℕ) → k < length group → count + get_or group k 0 < 2 ^ 32
   pub for-section : n.sections < length sections
-  pub for-programs : n.programs + (m - n.functions) ≤ length programs
-  pub for-maps : n.maps + (hi - lo) < length maps
+  pub for-programs : n.programs + length functions ≤ length programs
+  pub for-functions : n.functions + length functions < 2 ^ 32
+  pub for-maps : n.maps + length group < length maps
 
--- js are its symbols and fs its functions, which end at m; r numbers stand in each list then, and licence and version stay
-pub record Lists (count : ℕ) (k : Kind) (i : ℕ) (js fs : List ℕ) (n : Counts) (m : ℕ) (r : Counts) (s p o s₂ p₂ o₂ : List ℕ) : Type 0 where
+-- js are its symbols and fs its functions; r numbers stand in each list then, and licence and version stay
+pub record Lists (count : ℕ) (k : Kind) (i : ℕ) (js fs : List ℕ) (n r : Counts) (s p o s₂ p₂ o₂ : List ℕ) : Type 0 where
   pub of-sections : LaidFrom n.sections r.sections (sections_of k i) s s₂
   pub of-programs : LaidFrom n.programs r.programs (program_numbers_of k fs) p p₂
-  pub of-functions : r.functions ≡ m
+  pub of-functions : r.functions ≡ n.functions + length fs
   pub of-maps : LaidFrom n.maps r.maps (map_numbers_of count k i js) o o₂
   pub of-license : r.license ≡ n.license
   pub of-version : r.version ≡ n.version

@@ -1,11 +1,11 @@
 -- The pass over all sections: the first refusal, and the numbers that those passed list for each table.
 use Rattle.std.specs.Prelude.{◌≡◌, List, ◌++◌, ℕ, ◌+◌, ◌-◌, ◌<◌, ◌≤◌, length, take, drop, Err, None, Ok, Option, Result, Some}
 use Rattle.std.proofs.Math.Path.{refl, ap}
-use Rattle.std.proofs.Common.{sym, ◌∙◌, arith, length-take-le}
-use Rattle.std.proofs.Math.Seq.{slice, length-slice}
+use Rattle.std.proofs.Common.{sym, ◌∙◌, arith, length-append}
 use Rattle.lists.specs.Tab.{tab, tab-none, rows}
 use Rattle.object_view.specs.declared.View.{View}
 use Rattle.model.specs.declared.EbpfSectionKind.{EbpfSectionKind as Kind}
+use Rattle.model.specs.declared.Extent.{Extent}
 use Rattle.model.specs.declared.Refusal.{Refusal}
 use Rattle.model.specs.Bytes.{first_in, or_else}
 use Rattle.model.specs.Contents.{version_of}
@@ -17,17 +17,15 @@ use Rattle.catalogue_laws.specs.Numbers.{up_to, first_in-on, first_in-at}
 use Rattle.catalogue_laws.specs.SortedGroups.{by_section}
 use Rattle.records.specs.View.{section_at}
 use Rattle.records.specs.Readable.{Readable}
-use Rattle.object.specs.Group.{member_below}
 use Rattle.object.specs.View.{section_in, symbol_in, object_in}
 use Rattle.catalogue_numbers.specs.Numbers.{sections_from, programs_from, functions_from, maps_from, section_candidates, program_candidates, function_candidates, map_candidates}
-use Rattle.parse_first.specs.declared.LicenseAt.{LicenseAt}
 use Rattle.parse_first.specs.LicenceVersion.{licence_refused, version_refused, license_at}
 use Rattle.parse_text.specs.Parsed.{parsed_text}
 use Rattle.parse_sections.specs.declared.Counts.{Counts}
-use Rattle.parse_sections.specs.Grouped.{GroupOf, Reached, reached-start, reached-next, all-symbols}
+use Rattle.parse_sections.specs.Grouped.{GroupOf, Reached, reached-start, reached-next, all-symbols, member-below}
 use Rattle.parse_sections.specs.Answers.{Answers, functions_by, functions-by}
 use Rattle.parse_sections.specs.Lists.{few-sections, few-programs, few-maps, sections-by, programs-by, maps-by, RoomFor, Lists}
-use Rattle.parse_sections.specs.Candidates.{Candidates, candidates-none, candidates-inside, candidates-lent, candidates-back, candidates-past, candidates-next, candidates-own}
+use Rattle.parse_sections.specs.Candidates.{Candidates, candidates-none, candidates-inside, candidates-past, candidates-next, candidates-own, laid_behind, part_length}
 
 module _ (d t : List ℕ) (v : View) where
   abbrev o : Object
@@ -94,11 +92,11 @@ module _ (d t : List ℕ) (v : View) where
     pub fine : first_in (section_refusal o) (tab (section_in d t v) (i + 1)) ≡ None
     pub grown : w ≤ m
     pub few : m ≤ hi
-    pub own : slice w m functions ≡ functions_from d t v i
+    pub own : take (m - w) (drop w functions) ≡ functions_from d t v i
     pub held : Candidates (rows (functions_from d t v) (i + 1)) m functions
 
   module _ (order sections programs functions maps : List ℕ) where
-    pub going_start : (l : LicenseAt) (k : Option ℕ) → l ≡ license_at d t v → k ≡ version_of o
+    pub going_start : (l : Option Extent) (k : Option ℕ) → l ≡ license_at d t v → k ≡ version_of o
         → Going order sections programs functions maps 0 0 (record { sections = 0; programs = 0; functions = 0; maps = 0; license = l; version = k })
     unfolding first_in
     going_start l k e f =
@@ -157,75 +155,80 @@ module _ (d t : List ℕ) (v : View) where
           }
 
       module _ (l : i < v.sections) (readable : Readable d t v) (lo hi : ℕ) (b : GroupOf d t v (section_at d t v i) order from lo hi) where
-        -- its functions were appended to the front of the list, up to hi
+        -- its functions were laid behind those of the sections before it, up to hi
         module _ (r : Result ℕ Refusal) (out : List ℕ)
-            (a : Answers (section_refusal o (section_in d t v i)) (functions_by d t v (section_at d t v i)) (take (hi - 0) functions) n.functions r out) where
+            (a : Answers (section_refusal o (section_in d t v i)) (functions_by d t v (section_at d t v i)) (take (hi - n.functions) (drop n.functions functions)) r out) where
           pub going-refused : (x : Refusal) → r ≡ Err x → sections_refused ≡ Some x
           going-refused x f = first_in-at (section_refusal o) (section_in d t v) i v.sections x l g.fine (go (section_refusal o (section_in d t v i)) (sym f ∙ a.answer))
             where
-              go : (q : Option Refusal) → Err x ≡ parsed_text q (n.functions + length (functions_by d t v (section_at d t v i))) → q ≡ Some x
+              go : (q : Option Refusal) → Err x ≡ parsed_text q (length (functions_by d t v (section_at d t v i))) → q ≡ Some x
               go None z = let no : ◌≡◌ {A = ℕ} 0 1 = cc in absurd (omega arith)
               go (Some w) z = cc
 
-          fine-here : (m : ℕ) → r ≡ Ok m
-              → (section_refusal o (section_in d t v i) ≡ None) × (m ≡ n.functions + length (functions_by d t v (section_at d t v i)))
+          fine-here : (m : ℕ) → r ≡ Ok m → (section_refusal o (section_in d t v i) ≡ None) × (m ≡ length (functions_by d t v (section_at d t v i)))
           fine-here m f = go (section_refusal o (section_in d t v i)) (sym f ∙ a.answer)
             where
-              go : (q : Option Refusal) → Ok m ≡ parsed_text q (n.functions + length (functions_by d t v (section_at d t v i)))
-                  → (q ≡ None) × (m ≡ n.functions + length (functions_by d t v (section_at d t v i)))
+              go : (q : Option Refusal) → Ok m ≡ parsed_text q (length (functions_by d t v (section_at d t v i))) → (q ≡ None) × (m ≡ length (functions_by d t v (section_at d t v i)))
               go None z = (refl, cc)
               go (Some w) z = let no : ◌≡◌ {A = ℕ} 0 1 = cc in absurd (omega arith)
 
-          pub going-ahead : (m : ℕ) → hi ≤ length functions → length out ≡ length (take (hi - 0) functions) → r ≡ Ok m
-              → SectionAhead order (out ++ drop (hi - 0) functions) i hi n.functions m
+          pub going-ahead : (m : ℕ) → hi ≤ length functions → length out ≡ length (take (hi - n.functions) (drop n.functions functions)) → r ≡ Ok m
+              → SectionAhead order (take n.functions functions ++ (out ++ drop (hi - n.functions) (drop n.functions functions))) i hi n.functions (n.functions + m)
           going-ahead m room len f =
               let q = fine-here m f in
               let F = functions_from d t v in
-              let n0 : hi - 0 ≡ hi = omega arith in
-              let lt : length (take (hi - 0) functions) ≡ hi = rw n0 (length-take-le hi functions room) in
-              let c = candidates-lent g.of-functions (hi - 0) (omega (arith, g.few-functions, b.after, b.upward)) in
-              let k = candidates-next F i c (functions_by d t v (section_at d t v i)) out m (functions-by d t v i) (record { count = q.1; held = a.listed q.0 ∙ rw q.1 }) in
-              let h = candidates-back k (drop (hi - 0) functions) in
+              let listed = a.listed q.0 in
+              let all : length out ≡ hi - n.functions = len ∙ part_length n.functions hi (hi - n.functions) functions (omega (arith, g.few-functions, b.after, b.upward)) room in
+              let h = candidates-next F i g.of-functions (functions_by d t v (section_at d t v i)) _ (n.functions + m) (functions-by d t v i)
+              (laid_behind n.functions (hi - n.functions) m _ functions out q.1 (rw q.1 listed) len) in
               record {
                 reached = reached-next d t v order i from lo hi readable.sections-rise b;
                 fine = first_in-on (section_refusal o) (section_in d t v) i g.fine q.0;
-                grown = omega (arith, q.1);
-                few = omega (arith, candidates-inside k, len, lt);
-                own = candidates-own F i g.of-functions _ m h;
+                grown = omega arith;
+                few = omega (arith, q.1, all, ap length listed, length-append (functions_by d t v (section_at d t v i)) (drop (length (functions_by d t v (section_at d t v i))) (take (hi - n.functions) (drop n.functions functions))), g.few-functions, b.after, b.upward);
+                own = candidates-own F i g.of-functions _ (n.functions + m) h;
                 held = h;
               }
 
         -- what else it lists
         module _ (fs : List ℕ) (m : ℕ) (a : SectionAhead order fs i hi n.functions m) where
+          abbrev group : List ℕ
+          group = take (hi - lo) (drop lo order)
+
+          abbrev own : List ℕ
+          own = take (m - n.functions) (drop n.functions fs)
+
+          group-long : length group ≡ hi - lo
+          group-long = part_length lo hi (hi - lo) order (omega (arith, b.upward)) b.within
+
+          own-long : length own ≡ m - n.functions
+          own-long = part_length n.functions m (m - n.functions) fs (omega (arith, a.grown)) (candidates-inside a.held)
+
           pub going-room : v.sections ≤ length sections → v.symbols ≤ length programs → v.sections + v.symbols ≤ length maps
-              → RoomFor v.sections order lo hi sections programs fs maps n m
+              → RoomFor v.sections group sections programs own maps n
           going-room p q s =
               record {
-                upward = b.upward;
-                within = b.within;
-                small = λ k f h. omega (arith, member_below d t v (section_at d t v i) lo hi k order b.group b.within f h, readable.few-sections, readable.few-symbols);
-                grown = a.grown;
-                inside = candidates-inside a.held;
+                small = λ k h. omega (arith, member-below d t v (section_at d t v i) group k b.group h, readable.few-sections, readable.few-symbols);
                 for-section = omega (arith, g.few-sections);
-                for-programs = omega (arith, g.few-programs, a.grown, a.few, b.within, y);
-                for-maps = omega (arith, g.few-maps, b.after, b.upward, b.within, y);
+                for-programs = omega (arith, g.few-programs, own-long, a.grown, a.few, b.within, y);
+                for-functions = omega (arith, own-long, a.grown, a.few, b.within, y, readable.few-symbols);
+                for-maps = omega (arith, g.few-maps, group-long, b.after, b.upward, b.within, y);
               }
 
           pub going_next : (k : Kind) (r : Counts) (s p u : List ℕ) → k ≡ kind_of (section_in d t v i)
-              → Lists v.sections k i (slice lo hi order) (slice n.functions m fs) n m r sections programs maps s p u → Going order s p fs u (i + 1) hi r
+              → Lists v.sections k i group own n r sections programs maps s p u → Going order s p fs u (i + 1) hi r
           going_next k r s p u e x =
-              let ls : length (slice lo hi order) ≡ hi - lo = length-slice lo hi order b.within in
-              let lf : length (slice n.functions m fs) ≡ m - n.functions = length-slice n.functions m fs (candidates-inside a.held) in
+              let f : r.functions ≡ m = omega (arith, x.of-functions, own-long, a.grown) in
               record {
                 reached = a.reached;
                 fine = a.fine;
                 few-sections = omega (arith, x.of-sections.count, few-sections k i, g.few-sections);
-                few-programs = omega (arith, x.of-programs.count, few-programs k (slice n.functions m fs), lf, g.few-programs, x.of-functions, a.grown);
-                few-functions = omega (arith, x.of-functions, a.few);
-                few-maps = omega (arith, x.of-maps.count, few-maps v.sections k i (slice lo hi order), ls, g.few-maps, b.after, b.upward);
+                few-programs = omega (arith, x.of-programs.count, few-programs k own, own-long, g.few-programs, a.grown);
+                few-functions = omega (arith, a.few);
+                few-maps = omega (arith, x.of-maps.count, few-maps v.sections k i group, group-long, g.few-maps, b.after, b.upward);
                 of-sections = candidates-next (sections_from d t v) i g.of-sections _ s r.sections (sections-by d t v i ∙ rw (← e)) x.of-sections;
                 of-programs = candidates-next (programs_from d t v) i g.of-programs _ p r.programs (programs-by d t v i ∙ rw (← e, ← a.own)) x.of-programs;
-                of-functions = rw x.of-functions a.held;
+                of-functions = rw f a.held;
                 of-maps = candidates-next (maps_from d t v) i g.of-maps _ u r.maps (maps-by d t v i ∙ rw (← e, ← b.group)) x.of-maps;
                 of-license = x.of-license ∙ g.of-license;
                 of-version = x.of-version ∙ g.of-version;

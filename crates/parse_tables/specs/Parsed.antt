@@ -1,6 +1,7 @@
 -- What parsing an object answers, and what it leaves in the lent tables.
-use Rattle.std.specs.Prelude.{◌≡◌, List, ℕ, ◌-◌, ◌≤◌, length, take, Err, None, Ok, Option, Result, Some}
-use Rattle.std.proofs.Common.{sym, ap, ◌∙◌, arith, length-take-le}
+use Rattle.std.specs.Prelude.{◌≡◌, List, ◌++◌, ℕ, ◌-◌, ◌≤◌, length, take, drop, Err, None, Ok, Option, Result, Some}
+use Rattle.std.proofs.Common.{sym, ap, ◌∙◌, arith, length-append, length-take-le}
+use Rattle.std.proofs.Math.Seq.{take-append-le}
 use Rattle.lists.specs.Tests.{not_some}
 use Rattle.object_view.specs.declared.View.{View}
 use Rattle.model.specs.declared.Refusal.{Refusal}
@@ -11,7 +12,7 @@ use Rattle.object.specs.View.{object_in}
 use Rattle.catalogue_numbers.specs.Numbers.{section_numbers, program_numbers, function_numbers, map_numbers}
 use Rattle.parse_first.specs.LicenceVersion.{license_at}
 use Rattle.parse_sections.specs.declared.Counts.{Counts}
-use Rattle.parse_sections.specs.Candidates.{Candidates, candidates-inside}
+use Rattle.parse_sections.specs.Candidates.{Candidates}
 
 -- ---- one table
 
@@ -23,12 +24,11 @@ pub record Tabled (ns : List ℕ) (r : ℕ) (out : List ℕ) : Type 0 where
   pub count : r ≡ length ns
   pub front : Front ns out
 
-pub tabled : (key : ℕ → List ℕ) {cs o : List ℕ} {n : ℕ} (out : List ℕ) (r : ℕ) → Candidates cs n o → length out ≡ length o → r ≤ n → take r out ≡ table_of key (take n o)
-    → Tabled (table_of key cs) r out
-tabled key out r c k l f =
-    let h = candidates-inside c in
-    let q : take r out ≡ table_of key _ = f ∙ ap (table_of key) c.front in
-    let e : r ≡ length (table_of key _) = sym (length-take-le r out (omega arith)) ∙ ap length q in
+pub tabled : (key : ℕ → List ℕ) {cs o : List ℕ} {n : ℕ} (y : List ℕ) (r : ℕ) → Candidates cs n o → length y ≡ length (take n o) → r ≤ length (take n o) → take r y ≡ table_of key (take n o)
+    → Tabled (table_of key cs) r (y ++ drop n o)
+tabled key {o = o} {n = n} y r c k l f =
+    let q : take r (y ++ drop n o) ≡ table_of key _ = take-append-le r y (drop n o) (omega arith) ∙ f ∙ ap (table_of key) c.front in
+    let e : r ≡ length (table_of key _) = sym (length-take-le r (y ++ drop n o) (rw length-append (omega arith))) ∙ ap length q in
     record { count = e; front = rw (← e) q }
 
 -- the front of a list, lent

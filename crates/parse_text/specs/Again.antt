@@ -1,10 +1,10 @@
 -- Number 11 by one pass: the least number so far that has the address of the one before it, and the address to compare with.
-use Rattle.std.specs.Prelude.{◌≡◌, Bool, cond, eqb, nat_eq, length, get_or, None, Option, Some}
+use Rattle.std.specs.Prelude.{◌≡◌, Bool, cond, eqb, nat_eq, None, Option, Some}
 use Rattle.std.proofs.Math.Path.{refl}
 use Rattle.std.proofs.Common.{sym, ap, ◌∙◌}
 use Rattle.std.proofs.Math.Bool.{true, false}
 use mathlib.Core.List.{List, [], ◌∷◌}
-use Prim.Native.Nat.{ℕ, ◌+◌, ◌<◌, ◌≤◌}
+use Prim.Native.Nat.{ℕ}
 use Rattle.std.specs.Option.{option_eq}
 use Rattle.object_view.specs.declared.View.{View}
 use Rattle.model.specs.declared.SymbolRecord.{SymbolRecord}
@@ -96,18 +96,18 @@ module _ (addr : ℕ → ℕ) where
       go None = ap (earlier n) (first-after j l)
       go (Some x) = step (eqb x (addr j))
 
--- the symbol at place k
-pub answer-next : (d t : List ℕ) (v : View) (a : Again) (order : List ℕ) (k hi : ℕ) → k < hi → hi ≤ length order
-    → conflict_answer (address_in d t v) a (text_group d t v order k hi)
-    ≡ conflict_answer (address_in d t v) (again_next a (get_or order k 0) (symbol_at d t v (get_or order k 0))) (text_group d t v order (k + 1) hi)
+-- a symbol in front
+pub answer-next : (d t : List ℕ) (v : View) (a : Again) (j : ℕ) (group : List ℕ)
+    → conflict_answer (address_in d t v) a (text_group d t v (j ∷ group))
+    ≡ conflict_answer (address_in d t v) (again_next a j (symbol_at d t v j)) (text_group d t v group)
 unfolding again_next symbol_from
-answer-next d t v a order k hi p q = go (defined_record y) refl
+answer-next d t v a j group = go (defined_record y) refl
   where
     y : SymbolRecord
-    y = symbol_at d t v (get_or order k 0)
+    y = symbol_at d t v j
 
     go : (b : Bool) → defined_record y ≡ b
-        → conflict_answer (address_in d t v) a (text_group d t v order k hi)
-        ≡ conflict_answer (address_in d t v) (cond b (again a (get_or order k 0) y.address) a) (text_group d t v order (k + 1) hi)
-    go true e = ap (conflict_answer (address_in d t v) a) (group-text d t v order k hi p q (text-by-record d t v y ∙ e)) ∙ answer-again (address_in d t v) a (get_or order k 0) (text_group d t v order (k + 1) hi)
-    go false e = ap (conflict_answer (address_in d t v) a) (group-other d t v order k hi p q (text-by-record d t v y ∙ e))
+        → conflict_answer (address_in d t v) a (text_group d t v (j ∷ group))
+        ≡ conflict_answer (address_in d t v) (cond b (again a j y.address) a) (text_group d t v group)
+    go true e = ap (conflict_answer (address_in d t v) a) (group-text d t v j group (text-by-record d t v y ∙ e)) ∙ answer-again (address_in d t v) a j (text_group d t v group)
+    go false e = ap (conflict_answer (address_in d t v) a) (group-other d t v j group (text-by-record d t v y ∙ e))

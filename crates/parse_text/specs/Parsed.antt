@@ -1,7 +1,7 @@
 -- What parsing a text section answers, by the records.
-use Rattle.std.specs.Prelude.{◌≡◌, List, [], ◌∷◌, ◌++◌, ℕ, suc, ◌+◌, ◌-◌, ◌<◌, ◌≤◌, eqb, ltb, length, take, drop, Err, None, Ok, Option, Result, Some}
+use Rattle.std.specs.Prelude.{◌≡◌, List, [], ◌∷◌, ◌++◌, ℕ, suc, ◌+◌, ◌-◌, ◌<◌, ◌≤◌, eqb, ltb, length, drop, Err, None, Ok, Option, Result, Some}
 use Rattle.std.proofs.Math.Path.{refl, ap}
-use Rattle.std.proofs.Common.{sym, ◌∙◌, arith, add-zero, le-leb, take-append-drop}
+use Rattle.std.proofs.Common.{sym, ◌∙◌, arith, le-leb}
 use Rattle.std.proofs.lemmas.Bool.{lt-leb}
 use Rattle.lists.specs.Tab.{tab}
 use Rattle.model.specs.declared.Endianness.{Endianness}
@@ -51,9 +51,9 @@ abbrev pub parsed_text : Option Refusal → ℕ → Result ℕ Refusal
 parsed_text None n = Ok n
 parsed_text (Some r) n = Err r
 
--- the numbers m laid into a list from place w on
-abbrev pub numbers_laid : List ℕ → ℕ → List ℕ → List ℕ
-numbers_laid out w m = take w out ++ (m ++ drop (w + length m) out)
+-- the numbers m laid into a list from its front
+abbrev pub numbers_laid : List ℕ → List ℕ → List ℕ
+numbers_laid out m = m ++ drop (length m) out
 
 module _ (d t : List ℕ) (v : View) (s : SectionRecord) where
   abbrev sec : Section
@@ -141,9 +141,9 @@ module _ (d t : List ℕ) (v : View) (s : SectionRecord) where
     )
 
   -- what the walk answers and leaves in the lent numbers
-  pub record Walked (out₀ : List ℕ) (w : ℕ) (r : Result ℕ Refusal) (out : List ℕ) : Type 0 where
-    pub answer : r ≡ parsed_text (walk_from s.bytes.length 0) (w + length (kept_from s.bytes.length 0))
-    pub numbers : out ≡ numbers_laid out₀ w (kept_from s.bytes.length 0)
+  pub record Walked (out₀ : List ℕ) (r : Result ℕ Refusal) (out : List ℕ) : Type 0 where
+    pub answer : r ≡ parsed_text (walk_from s.bytes.length 0) (length (kept_from s.bytes.length 0))
+    pub numbers : out ≡ numbers_laid out₀ (kept_from s.bytes.length 0)
 
   -- ---- the whole section
 
@@ -170,24 +170,24 @@ module _ (d t : List ℕ) (v : View) (s : SectionRecord) where
   numbers-are = numbers-by-walk endian sections (symbol_in d t v) v.symbols sec ∙ rw data-length
 
   -- what parsing a section answers and leaves in the lent numbers
-  pub record TextParsed (out₀ : List ℕ) (w : ℕ) (r : Result ℕ Refusal) (out : List ℕ) : Type 0 where
-    pub answer : r ≡ parsed_text (text_refusal (object_in d t v) sec) (w + length walked_numbers)
-    pub numbers : out ≡ numbers_laid out₀ w walked_numbers
+  pub record TextParsed (out₀ : List ℕ) (r : Result ℕ Refusal) (out : List ℕ) : Type 0 where
+    pub answer : r ≡ parsed_text (text_refusal (object_in d t v) sec) (length walked_numbers)
+    pub numbers : out ≡ numbers_laid out₀ walked_numbers
 
-  module _ (order : List ℕ) (lo hi : ℕ) (e : text_group d t v order lo hi ≡ text_in d t v sec) where
+  module _ (group : List ℕ) (e : text_group d t v group ≡ text_in d t v sec) where
     -- 11
-    pub parsed-conflict : (c : Option ℕ) (out₀ : List ℕ) (w j : ℕ) → c ≡ least_again (address_in d t v) (text_group d t v order lo hi) → c ≡ Some j
-        → TextParsed out₀ w (Err (refusal 11 s.index (symbol_at d t v j).index)) out₀
-    parsed-conflict c out₀ w j p q =
+    pub parsed-conflict : (c : Option ℕ) (out₀ : List ℕ) (j : ℕ) → c ≡ least_again (address_in d t v) (text_group d t v group) → c ≡ Some j
+        → TextParsed out₀ (Err (refusal 11 s.index (symbol_at d t v j).index)) out₀
+    parsed-conflict c out₀ j p q =
         let f : least ≡ Some j = rw e at (sym p ∙ q) in
         let r : text_refusal (object_in d t v) sec ≡ Some (refusal 11 s.index (symbol_at d t v j).index) = refusal_is ∙ rw f in
         let m : walked_numbers ≡ [] = numbers-are ∙ rw f in
-        record { answer = rw r; numbers = rw (m, add-zero) (sym (take-append-drop w out₀)) }
+        record { answer = rw r; numbers = rw m }
 
     -- the walk
-    pub parsed-walk : (c : Option ℕ) (out₀ : List ℕ) (w : ℕ) (r : Result ℕ Refusal) (out : List ℕ)
-        → c ≡ least_again (address_in d t v) (text_group d t v order lo hi) → c ≡ None → Walked out₀ w r out → TextParsed out₀ w r out
-    parsed-walk c out₀ w r out p q g =
+    pub parsed-walk : (c : Option ℕ) (out₀ : List ℕ) (r : Result ℕ Refusal) (out : List ℕ)
+        → c ≡ least_again (address_in d t v) (text_group d t v group) → c ≡ None → Walked out₀ r out → TextParsed out₀ r out
+    parsed-walk c out₀ r out p q g =
         let f : least ≡ None = rw e at (sym p ∙ q) in
         let a : text_refusal (object_in d t v) sec ≡ walk_from s.bytes.length 0 = refusal_is ∙ rw f in
         let m : walked_numbers ≡ kept_from s.bytes.length 0 = numbers-are ∙ rw f in

@@ -1,18 +1,17 @@
 // Text sections: numbers 11 to 15, and the numbers of the symbols that the walk meets.
 #![tactic(auto)]
 
-ghost use Rattle.std.specs.Prelude.{◌≡◌, ◌+◌, ◌-◌, ◌≤◌, length, Err, Some};
+ghost use Rattle.std.specs.Prelude.{◌≡◌, ◌≤◌, length, Err, Some};
 ghost use Rattle.catalogue_laws.specs.Shared.{earlier as earlier_of, least_again};
 ghost use Rattle.object.specs.View.{section_from};
 ghost use Rattle.object.specs.Checked.{checked_of};
 ghost use Rattle.parse_text.specs.Group.{address_in, text_group, text_in};
 ghost use Rattle.parse_text.specs.Again.{again_next};
 ghost use Rattle.parse_text.specs.Parsed.{refusal, unknown_symbol, invalid_symbol, Walked, TextParsed};
+ghost use Rattle.records.specs.Of.{of};
 
 use model::{Refusal, SectionIndex, SectionRecord, SymbolIndex, SymbolRecord};
-use object_view::View;
-
-const LAST_ADDRESS: u64 = 0xFFFF_FFFF_FFFF_FFFF;
+use records::Records;
 
 // The address of the last defined text symbol, and the least number so far to repeat an address.
 #[derive(Clone, Copy)]
@@ -50,26 +49,17 @@ impl Again {
     }
 }
 
-// The least symbol number of the defined text among order[lo..hi] that has the address of the one before it.
-pub fn symbol_table_conflict(
-    d: &[u8],
-    t: &[u32],
-    v: View,
-    symbols: &[u32],
-    lo: usize,
-    hi: usize,
-) -> Option<u32>
-    requires { (lo ≤ hi) × (hi ≤ length symbols.now) }
+// The least symbol number of a group's defined text that has the address of the one before it.
+fn symbol_table_conflict(records: Records, group: &[u32]) -> Option<u32>
     ensures { result
-        ≡ least_again (address_in d.now t.now v) (text_group d.now t.now v symbols.now lo hi) }
+        ≡ least_again (of address_in records.entry) (of text_group records.entry group.now) }
 {
     let mut a = Again {
         address: None,
         least: None,
     };
-    for k in lo..hi {
-        let j = symbols[k];
-        a = a.next(j, records::symbol(d, t, v, j));
+    for j in group {
+        a = a.next(*j, records.symbol(*j));
     }
     a.least
 }
@@ -101,7 +91,7 @@ pub fn invalid_symbol(s: SectionRecord, y: SymbolRecord, offset: u64) -> Result<
     if size == 0 {
         return Err(refused(13, s.index, y.index));
     }
-    if size > stream::wide64(s.bytes.length) - offset {
+    if size > u64::from(s.bytes.length) - offset {
         return Err(refused(14, s.index, y.index));
     }
     if insn::invalid_program_code(size) {
@@ -112,48 +102,41 @@ pub fn invalid_symbol(s: SectionRecord, y: SymbolRecord, offset: u64) -> Result<
 
 // 12 to 15; the search for the next address goes on from where it stands.
 fn walk(
-    d: &[u8],
-    t: &[u32],
-    v: View,
+    records: Records,
     s: SectionRecord,
-    symbols: &[u32],
-    lo: usize,
-    hi: usize,
+    group: &[u32],
     out: &mut [u32],
-    w: usize,
 ) -> Result<usize, Refusal>
-    requires lo_le_hi { (lo ≤ hi) × (hi ≤ length symbols.now) × (w + (hi - lo) ≤ length out.old) }
-    requires hi_value { text_group d.now t.now v symbols.now lo hi ≡ text_in d.now t.now v (section_from d.now t.now v s) }
-    ensures { Walked d.now t.now v s out.old w result out.new }
+    requires room { length group.now ≤ length out.old }
+    requires text { of text_group records group.now ≡ of text_in records (of section_from records s) }
+    ensures { of Walked records.entry s out.old result out.new }
 {
-    let len = stream::wide64(s.bytes.length);
-    let start = s.address;
+    let len = u64::from(s.bytes.length);
     let mut offset: u64 = 0;
-    let mut k = lo;
-    let mut n = w;
+    let mut rest = group;
+    let mut n = 0;
     // A step is as wide as the symbol that it meets.
     while offset < len {
-        if offset > LAST_ADDRESS - start {
+        let Some(address) = s.address.checked_add(offset) else {
             return unknown_symbol(s);
-        }
-        let address = start + offset;
+        };
+        // What is passed over is left behind, so the group is walked once.
         let found = loop {
-            if k >= hi {
+            let Some((j, behind)) = rest.split_first() else {
                 return unknown_symbol(s);
-            }
-            let j = symbols[k];
-            k += 1;
-            let y = records::symbol(d, t, v, j);
+            };
+            rest = behind;
+            let y = records.symbol(*j);
             if object::is_defined_text(y) {
                 if y.address == address {
-                    break j;
+                    break *j;
                 }
                 if y.address > address {
                     return unknown_symbol(s);
                 }
             }
         };
-        let y = records::symbol(d, t, v, found);
+        let y = records.symbol(found);
         invalid_symbol(s, y, offset)?;
         out[n] = found;
         n += 1;
@@ -162,27 +145,23 @@ fn walk(
     Ok(n)
 }
 
-// Numbers 11 to 15 of a text section, and the numbers of its functions, stored from out[w] on. order[lo..hi] has the section's symbols in order of address.
+// Numbers 11 to 15 of a text section, and the numbers of its functions at the front of out; how many there are.
+// The group has the section's symbols in order of address.
 pub fn parse_text_section(
-    d: &[u8],
-    t: &[u32],
-    v: View,
+    records: Records,
     s: SectionRecord,
-    symbols: &[u32],
-    lo: usize,
-    hi: usize,
+    group: &[u32],
     out: &mut [u32],
-    w: usize,
 ) -> Result<usize, Refusal>
-    requires lo_le_hi { (lo ≤ hi) × (hi ≤ length symbols.now) × (w + (hi - lo) ≤ length out.old) }
-    requires hi_value { text_group d.now t.now v symbols.now lo hi ≡ text_in d.now t.now v (section_from d.now t.now v s) }
-    ensures { TextParsed d.now t.now v s out.old w result out.new }
+    requires room { length group.now ≤ length out.old }
+    requires text { of text_group records group.now ≡ of text_in records (of section_from records s) }
+    ensures { of TextParsed records.entry s out.old result out.new }
 {
-    match symbol_table_conflict(d, t, v, symbols, lo, hi) {
+    match symbol_table_conflict(records, group) {
         Some(j) => {
-            let y = records::symbol(d, t, v, j);
+            let y = records.symbol(j);
             Err(refused(11, s.index, y.index))
         }
-        None => walk(d, t, v, s, symbols, lo, hi, out, w),
+        None => walk(records, s, group, out),
     }
 }

@@ -1,9 +1,11 @@
 -- The keys that sort the symbols, and the group between the two places: the section's symbols.
-use Rattle.std.specs.Prelude.{◌≡◌, Bool, true, false, cond, not, ℕ, zero, suc, ◌<◌, ◌≤◌, eqb, ltb, length, get_or, take, drop}
+use Rattle.std.specs.Prelude.{◌≡◌, Bool, true, false, cond, not, ℕ, zero, suc, ◌+◌, ◌<◌, ◌≤◌, eqb, ltb, take, drop}
 use Rattle.std.proofs.Math.Path.{refl, sym}
-use Rattle.std.proofs.Common.{◌∙◌, arith, eqb-true, eq-eqb, ne_eqb, ltb-true, ltb-false}
+use Rattle.std.proofs.Common.{ap, ◌∙◌, arith, eqb-true, eq-eqb, ne_eqb, ltb-true, ltb-false, take-add, drop-drop}
+use Rattle.std.proofs.Math.Numerals.{one-add}
+use Rattle.std.proofs.lemmas.Bool.{eqb-false}
 use mathlib.Core.List.{List, [], ◌∷◌}
-use Rattle.std.proofs.Math.Seq.{slice}
+use Rattle.std.specs.List.{prefix_len}
 use Rattle.object_view.specs.declared.View.{View}
 use Rattle.lists.specs.Tests.{true-not-false}
 use Rattle.model.specs.Bytes.{keep, before}
@@ -13,7 +15,8 @@ use Rattle.catalogue_laws.specs.Numbers.{up_to}
 use Rattle.catalogue_laws.specs.ByNumber.{raw_section}
 use Rattle.catalogue_laws.specs.SectionsPrograms.{All}
 use Rattle.catalogue_laws.specs.Shared.{Climbs}
-use Rattle.catalogue_laws.specs.SortedGroups.{by_section, group-is}
+use Rattle.catalogue_laws.specs.FunctionsMaps.{all_append}
+use Rattle.catalogue_laws.specs.SortedGroups.{by_section}
 use Rattle.object.specs.View.{symbol_from, symbol_in}
 use Rattle.record_keys.specs.declared.By.{By}
 use Rattle.record_keys.specs.Keys.{key_of}
@@ -61,39 +64,6 @@ number-le x y e = go (eqb y x) (ltb y x) refl refl e
     go false true p q r = true-not-false (sym r)
     go false false p q r = ltb-false y x q
 
-all_from : (key : ℕ → ℕ) (m n : ℕ) (l : List ℕ) → Climbs key n l → m ≤ n → All (λ j. m ≤ key j) l
-all_from key m n [] c h = tt
-all_from key m n (x ∷ l) c h = let p : n ≤ key x = c.0 in (omega arith, all_from key m (key x) l c.1 (omega arith))
-
--- from a place on, none is below what stands there
-from_place : (key : ℕ → ℕ) (n p : ℕ) (l : List ℕ) → Climbs key n l → p < length l → All (λ j. key (get_or l p 0) ≤ key j) (drop p l)
-from_place key n p [] c h = let no : ⊥ = omega arith in absurd no
-from_place key n zero (x ∷ l) c h = (omega arith, all_from key (key x) (key x) l c.1 (omega arith))
-from_place key n (suc p) (x ∷ l) c h = from_place key (key x) p l c.1 (omega arith)
-
-all_map : (P Q : ℕ → Type 0) (l : List ℕ) → ((j : ℕ) → P j → Q j) → All P l → All Q l
-all_map P Q [] f a = tt
-all_map P Q (x ∷ l) f a = (f x a.0, all_map P Q l f a.1)
-
-all_end : (P : ℕ → Type 0) (p : ℕ) (l : List ℕ) → length l ≤ p → All P (drop p l)
-all_end P zero [] h = tt
-all_end P zero (x ∷ l) h = let no : ⊥ = omega arith in absurd no
-all_end P (suc p) [] h = tt
-all_end P (suc p) (x ∷ l) h = all_end P p l (omega arith)
-
-at_place : (P : ℕ → Type 0) (p i : ℕ) (l : List ℕ) → All P (drop p l) → p ≤ i → i < length l → P (get_or l i 0)
-at_place P p i [] a h q = let no : ⊥ = omega arith in absurd no
-at_place P zero zero (x ∷ l) a h q = a.0
-at_place P zero (suc i) (x ∷ l) a h q = at_place P zero i l a.1 (omega arith) (omega arith)
-at_place P (suc p) zero (x ∷ l) a h q = let no : ⊥ = omega arith in absurd no
-at_place P (suc p) (suc i) (x ∷ l) a h q = at_place P p i l a (omega arith) (omega arith)
-
-join-take : (P : ℕ → Type 0) (m n : ℕ) (l : List ℕ) → m ≤ n → All P (take m l) → All P (slice m n l) → All P (take n l)
-join-take P zero n l h a b = b
-join-take P (suc m) zero l h a b = let no : ⊥ = omega arith in absurd no
-join-take P (suc m) (suc n) [] h a b = tt
-join-take P (suc m) (suc n) (x ∷ l) h a b = (a.0, join-take P m n l (omega arith) a.1 b)
-
 -- all symbols sorted by section
 pub section-climbs : (d t : List ℕ) (v : View) (l : List ℕ) → l ≡ sorted (by_section (symbol_in d t v)) (up_to v.symbols) → Climbs (λ j. (symbol_at d t v j).section.0) 0 l
 section-climbs d t v l e =
@@ -103,41 +73,98 @@ section-climbs d t v l e =
     (λ a b q. rw (raw-is d t v (symbol_at d t v a), raw-is d t v (symbol_at d t v b)) at (number-le (raw_section (symbol_in d t v a)) (raw_section (symbol_in d t v b)) q))
     0 l (first-from-0 (λ j. (symbol_at d t v j).section.0) l) o
 
--- up to a place where no group stands
-pub none_passed : (key : ℕ → ℕ) (l : List ℕ) (k k₂ from lo : ℕ) → k ≤ k₂ → from ≤ lo → All (λ j. key j < k) (take from l) → All (λ j. key j < k) (slice from lo l)
-    → All (λ j. key j < k₂) (take lo l)
-none_passed key l k k₂ from lo h fl a b =
-    all_map (λ j. key j < k) (λ j. key j < k₂) (take lo l) (λ j q. omega arith) (join-take (λ j. key j < k) from lo l fl a b)
-
 -- ---- the group
 
-module _ (key : ℕ → ℕ) (l : List ℕ) (k from lo hi : ℕ) (climbs : Climbs key 0 l) (passed : All (λ j. key j < k) (take from l)) (fl : from ≤ lo) (lh : lo ≤ hi)
-    (below : All (λ j. key j < k) (slice from lo l)) (starts : lo < length l → k ≤ key (get_or l lo 0)) (equal : All (λ j. key j ≡ k) (slice lo hi l))
-    (stops : hi < length l → key (get_or l hi 0) ≡ k → ⊥) where
-  front : All (λ j. key j < k) (take lo l)
-  front = join-take (λ j. key j < k) from lo l fl passed below
+all_map : (P Q : ℕ → Type 0) (l : List ℕ) → ((j : ℕ) → P j → Q j) → All P l → All Q l
+all_map P Q [] f a = tt
+all_map P Q (x ∷ l) f a = (f x a.0, all_map P Q l f a.1)
 
-  -- what stands behind is above k
-  above : (b : Bool) → ltb hi (length l) ≡ b → All (λ j. k < key j) (drop hi l)
-  above false e = all_end _ hi l (ltb-false _ _ e)
-  above true e =
-      let h : hi < length l = ltb-true _ _ e in
-      let s : k ≤ key (get_or l lo 0) = starts (omega arith) in
-      let a : All (λ j. key (get_or l lo 0) ≤ key j) (drop lo l) = from_place key 0 lo l climbs (omega arith) in
-      let m : key (get_or l lo 0) ≤ key (get_or l hi 0) = at_place (λ j. key (get_or l lo 0) ≤ key j) lo hi l a lh h in
-      let n : key (get_or l hi 0) ≡ k → ⊥ = stops h in
-      let g : k < key (get_or l hi 0) = omega arith in
-      all_map (λ j. key (get_or l hi 0) ≤ key j) (λ j. k < key j) (drop hi l) (λ j q. omega arith) (from_place key 0 hi l climbs h)
+-- two parts that follow each other
+all_joined : (P : ℕ → Type 0) (m n : ℕ) (l : List ℕ) → All P (take m l) → All P (take n (drop m l)) → All P (take (m + n) l)
+all_joined P m n l a b = rw take-add (all_append P (take m l) (take n (drop m l)) a b)
 
-  pub the-group : keep (λ j. eqb k (key j)) l ≡ slice lo hi l
-  the-group =
-      group-is (λ j. eqb k (key j)) l lo hi lh
-      (all_map (λ j. key j < k) (λ j. eqb k (key j) ≡ false) (take lo l) (λ j q. ne_eqb k (key j) (omega arith)) front)
-      (all_map (λ j. key j ≡ k) (λ j. eqb k (key j) ≡ true) (slice lo hi l) (λ j q. eq-eqb k (key j) (sym q)) equal)
-      (all_map (λ j. k < key j) (λ j. eqb k (key j) ≡ false) (drop hi l) (λ j q. ne_eqb k (key j) (omega arith)) (above (ltb hi (length l)) refl))
+all_passing : (P : ℕ → Type 0) (p : ℕ → Bool) (l : List ℕ) → ((j : ℕ) → p j ≡ true → P j) → All P (take (prefix_len p l) l)
+all_passing P p [] f = tt
+all_passing P p (x ∷ l) f = go (p x) refl (all_passing P p l f)
+  where
+    go : (b : Bool) → p x ≡ b → All P (take (prefix_len p l) l) → All P (take (cond b (1 + prefix_len p l) 0) (x ∷ l))
+    go true e r = rw one-add (f x e, r)
+    go false e r = tt
 
-  -- what is passed for the next section
-  pub all-passed : (k₂ : ℕ) → k < k₂ → All (λ j. key j < k₂) (take hi l)
-  all-passed k₂ h =
-      join-take (λ j. key j < k₂) lo hi l lh (all_map (λ j. key j < k) (λ j. key j < k₂) (take lo l) (λ j q. omega arith) front)
-      (all_map (λ j. key j ≡ k) (λ j. key j < k₂) (slice lo hi l) (λ j q. omega arith) equal)
+module _ (key : ℕ → ℕ) (k : ℕ) where
+  abbrev pub below : ℕ → Bool
+  below j = ltb (key j) k
+
+  abbrev pub at : ℕ → Bool
+  at j = eqb (key j) k
+
+  abbrev kept : List ℕ → List ℕ
+  kept l = keep (λ j. eqb k (key j)) l
+
+  -- none is kept of those below k, nor of those that climb from above k
+  kept_below : (from : ℕ) (l : List ℕ) → All (λ j. key j < k) (take from l) → kept l ≡ kept (drop from l)
+  unfolding keep
+  kept_below zero l a = refl
+  kept_below (suc from) [] a = refl
+  kept_below (suc from) (x ∷ l) a = let p : key x < k = a.0 in rw (ne_eqb k (key x) (omega arith)) (kept_below from l a.1)
+
+  kept_above : (n : ℕ) (l : List ℕ) → Climbs key n l → k < n → kept l ≡ []
+  unfolding keep
+  kept_above n [] c h = refl
+  kept_above n (x ∷ l) c h = let p : n ≤ key x = c.0 in rw (ne_eqb k (key x) (omega arith)) (kept_above (key x) l c.1 (omega arith))
+
+  -- of those that climb from k on
+  kept_at : (l : List ℕ) → Climbs key k l → kept l ≡ take (prefix_len at l) l
+  unfolding keep
+  kept_at [] c = refl
+  kept_at (x ∷ l) c = go (eqb (key x) k) refl (kept_at l)
+    where
+      go : (b : Bool) → eqb (key x) k ≡ b → (Climbs key k l → kept l ≡ take (prefix_len at l) l) → kept (x ∷ l) ≡ take (cond b (1 + prefix_len at l) 0) (x ∷ l)
+      go true e r =
+          let q : key x ≡ k = eqb-true (key x) k e in
+          rw (eq-eqb k (key x) (sym q)) (rw one-add (ap (λ m. x ∷ m) (r (rw q at c.1))))
+      go false e r =
+          let q : key x ≡ k → ⊥ = eqb-false (key x) k e in
+          let p : k ≤ key x = c.0 in
+          rw (ne_eqb k (key x) (omega arith)) (kept_above (key x) l c.1 (omega arith))
+
+  -- of all that climb: those behind what is below k
+  kept_group : (n : ℕ) (l : List ℕ) → Climbs key n l → kept l ≡ take (prefix_len at (drop (prefix_len below l) l)) (drop (prefix_len below l) l)
+  unfolding keep
+  kept_group n [] c = refl
+  kept_group n (x ∷ l) c = go (ltb (key x) k) refl (kept_group (key x) l c.1)
+    where
+      go : (b : Bool) → ltb (key x) k ≡ b → kept l ≡ take (prefix_len at (drop (prefix_len below l) l)) (drop (prefix_len below l) l)
+          → kept (x ∷ l) ≡ take (prefix_len at (drop (cond b (1 + prefix_len below l) 0) (x ∷ l))) (drop (cond b (1 + prefix_len below l) 0) (x ∷ l))
+      go true e r = let p : key x < k = ltb-true (key x) k e in rw (ne_eqb k (key x) (omega arith)) (rw one-add r)
+      go false e r = let p : k ≤ key x = ltb-false (key x) k e in kept_at (x ∷ l) (p, c.1)
+
+  climbs_on : (m n : ℕ) (l : List ℕ) → m ≤ n → Climbs key n l → Climbs key m l
+  climbs_on m n [] h c = tt
+  climbs_on m n (x ∷ l) h c = let p : n ≤ key x = c.0 in (omega arith, c.1)
+
+  climbs_rest : (from n : ℕ) (l : List ℕ) → Climbs key n l → Climbs key 0 (drop from l)
+  climbs_rest zero n l c = climbs_on 0 n l (omega arith) c
+  climbs_rest (suc from) n [] c = tt
+  climbs_rest (suc from) n (x ∷ l) c = climbs_rest from (key x) l c.1
+
+  -- what lies in sections below k is passed
+  module _ (l : List ℕ) (from : ℕ) (passed : All (λ j. key j < k) (take from l)) where
+    front : All (λ j. key j < k) (take (from + prefix_len below (drop from l)) l)
+    front = all_joined (λ j. key j < k) from (prefix_len below (drop from l)) l passed (all_passing (λ j. key j < k) below (drop from l) (λ j e. ltb-true (key j) k e))
+
+    pub none-passed : (m : ℕ) → k ≤ m → All (λ j. key j < m) (take (from + prefix_len below (drop from l)) l)
+    none-passed m h = all_map (λ j. key j < k) (λ j. key j < m) _ (λ j q. omega arith) front
+
+    module _ (lo : ℕ) (start : lo ≡ from + prefix_len below (drop from l)) where
+      pub the-group : Climbs key 0 l → kept l ≡ take (prefix_len at (drop lo l)) (drop lo l)
+      the-group c =
+          kept_below from l passed
+          ∙ kept_group 0 (drop from l) (climbs_rest from 0 l c)
+          ∙ rw (start, ← drop-drop (prefix_len below (drop from l)) from l)
+
+      -- the group is passed too
+      pub all-passed : (m : ℕ) → k < m → All (λ j. key j < m) (take (lo + prefix_len at (drop lo l)) l)
+      all-passed m h =
+          all_joined (λ j. key j < m) lo (prefix_len at (drop lo l)) l (rw start (none-passed m (omega arith)))
+          (all_passing (λ j. key j < m) at (drop lo l) (λ j e. let q : key j ≡ k = eqb-true (key j) k e in omega arith))

@@ -1,8 +1,10 @@
 use mathlib.Core.Path.{◌≡◌}
+use Rattle.records.specs.Of.{of}
 use Rattle.parse_first.specs.Targets.{next_untargeted, filled_from}
 use Rattle.parse_first.proofs.next_untargeted.Given as goal
 
 abbrev pub invariant-loop-k : goal.invariant-loop-k
-invariant-loop-k l =
-    (l.nearest ≡ next_untargeted l.d l.t l.v l.k)
-    × (l.next ≡ filled_from (next_untargeted l.d l.t l.v) l.k l.v.relocations l.initial.next)
+invariant-loop-k l = record {
+  nearest : l.nearest ≡ of next_untargeted l.records l.k;
+  filled : l.next ≡ filled_from (of next_untargeted l.records) l.k l.records.view.relocations l.initial.next;
+}

@@ -1,10 +1,10 @@
 use mathlib.Core.Path.{◌≡◌}
-use Prim.Native.Nat.{◌+◌, ◌-◌}
-use lib.Seq.{slice}
-use Rattle.catalogue_laws.specs.Groups.{LaidFrom}
+use lib.ListN.{take, drop}
 use Rattle.parse_maps.specs.Fault.{symbol_map_numbers}
 use Rattle.parse_maps.proofs.map_numbers.Given as goal
 
-abbrev pub invariant-loop-i : goal.invariant-loop-i
-invariant-loop-i l =
-    (l.n ≡ l.w + (l.i - l.lo)) × LaidFrom l.w l.n (symbol_map_numbers l.sections (slice l.lo l.i l.symbols)) l.initial.out l.out
+abbrev pub invariant-loop-k : goal.invariant-loop-k
+invariant-loop-k l = record {
+  put : take l.k l.out ≡ symbol_map_numbers l.sections (take l.k l.group);
+  rest : drop l.k l.out ≡ drop l.k l.initial.out;
+}

@@ -1,9 +1,13 @@
-use Prim.Native.Nat.{◌+◌, ◌-◌, ◌≤◌}
-use lib.Seq.{slice}
-use Rattle.catalogue_laws.specs.Groups.{LaidFrom}
+use mathlib.Core.Path.{◌≡◌}
+use Prim.Native.Nat.{◌≤◌}
+use lib.ListN.{take, drop}
+use Rattle.records.specs.Of.{of}
 use Rattle.object.specs.Group.{programs_among}
 use Rattle.parse_programs.proofs.program_numbers.Given as goal
 
-abbrev pub invariant-loop-i : goal.invariant-loop-i
-invariant-loop-i l =
-    (l.n ≤ l.w + (l.i - l.lo)) × LaidFrom l.w l.n (programs_among l.d l.t l.v (slice l.lo l.i l.symbols)) l.initial.out l.out
+abbrev pub invariant-loop-j : goal.invariant-loop-j
+invariant-loop-j l = record {
+  few : l.n ≤ l.j-index;
+  put : take l.n l.out ≡ of programs_among l.records (take l.j-index l.group);
+  rest : drop l.n l.out ≡ drop l.n l.initial.out;
+}

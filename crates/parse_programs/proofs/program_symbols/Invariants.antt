@@ -1,9 +1,11 @@
 use mathlib.Core.Path.{◌≡◌}
-use lib.Seq.{slice}
+use lib.ListN.{drop}
 use Rattle.model.specs.Bytes.{first_in}
+use Rattle.records.specs.Of.{of}
+use Rattle.object.specs.Checked.{checked_of}
 use Rattle.parse_programs.specs.Fault.{program_refusal_at}
 use Rattle.parse_programs.proofs.program_symbols.Given as goal
 
-abbrev pub invariant-loop-i : goal.invariant-loop-i
-invariant-loop-i l =
-    first_in (program_refusal_at l.d l.t l.v l.s) (slice l.lo l.hi l.symbols) ≡ first_in (program_refusal_at l.d l.t l.v l.s) (slice l.i l.hi l.symbols)
+abbrev pub invariant-loop-j : goal.invariant-loop-j
+invariant-loop-j l =
+    checked_of (first_in (of program_refusal_at l.records l.s) l.group) ≡ checked_of (first_in (of program_refusal_at l.records l.s) (drop l.j-index l.group))

@@ -8,10 +8,10 @@ use Rattle.parse_sections.proofs.parse_programs.Goals as goal
 pub returns-in_err-program_refusal : goal.returns-in_err-program_refusal
 returns-in_err-program_refusal c =
     let p = err_from_is_err_and c.from_residual.result c.from_residual.ensures.1 in
-    rw (p.1, p.2) (answers-refused _ _ _ _ _ _ (checked_refused _ _ (sym c.program_refusal.ensures ∙ c.in_err-program_refusal.was)))
+    rw (p.1, p.2) (answers-refused _ _ _ _ _ (checked_refused _ _ (sym c.program_refusal.ensures ∙ c.in_err-program_refusal.was)))
 
 pub returns : goal.returns
 returns c =
     let n = c.program_numbers in
-    let e = c.requires.3 in
-    answers-fine _ _ _ _ _ _ (checked-fine _ (sym c.program_refusal.ensures ∙ c.in_ok-program_refusal.was)) (rw e at n.ensures.0) (rw e at n.ensures.1)
+    let e = c.requires.1 in
+    answers-fine _ _ _ _ _ (checked-fine _ (sym c.program_refusal.ensures ∙ c.in_ok-program_refusal.was)) (rw e at n.ensures.0) (rw e at n.ensures.1)

@@ -9,21 +9,21 @@ use Rattle.parse_sections.proofs.parse_section.Goals as goal
 pub returns-then-is_btf_ext : goal.returns-then-is_btf_ext
 returns-then-is_btf_ext c =
     let a = c.args in
-    let k = sym (c.is_btf_ext.ensures ∙ ap (is_kind Kind.BtfExt) c.requires.6) in
-    section-skipped a.d.now a.t.now a.v a.s a.functions.now a.w (k ∙ c.if-is_btf_ext.true)
+    let k = sym (c.is_btf_ext.ensures ∙ ap (is_kind Kind.BtfExt) c.requires.4) in
+    section-skipped a.records.bytes.now a.records.index.now a.records.view a.s a.functions.now (k ∙ c.if-is_btf_ext.true)
 
 pub returns-then-untargeted : goal.returns-then-untargeted
 returns-then-untargeted c =
     let a = c.args in
-    let k = sym (c.is_btf_ext.ensures ∙ ap (is_kind Kind.BtfExt) c.requires.6) in
-    let r = reaches-untargeted a.d.now a.t.now a.v a.next.now a.s c.requires.7 c.requires.8 in
+    let k = sym (c.is_btf_ext.ensures ∙ ap (is_kind Kind.BtfExt) c.requires.4) in
+    let r = reaches-untargeted a.records.bytes.now a.records.index.now a.records.view a.next.now a.s c.requires.5 c.requires.6 in
     rw (rw c.of_section.ensures at c.map.ensures.cases)
-    (section-untargeted a.d.now a.t.now a.v a.s a.functions.now a.w (k ∙ c.if-is_btf_ext.false) (sym (c.untargeted.ensures ∙ r) ∙ c.if-untargeted.true))
+    (section-untargeted a.records.bytes.now a.records.index.now a.records.view a.s a.functions.now (k ∙ c.if-is_btf_ext.false) (sym (c.untargeted.ensures ∙ r) ∙ c.if-untargeted.true))
 
 pub returns : goal.returns
 returns c =
     let a = c.args in
-    let k = sym (c.is_btf_ext.ensures ∙ ap (is_kind Kind.BtfExt) c.requires.6) in
-    let r = reaches-untargeted a.d.now a.t.now a.v a.next.now a.s c.requires.7 c.requires.8 in
-    section-kind a.d.now a.t.now a.v a.s a.functions.now a.w c.parse_kind.result _ (k ∙ c.if-is_btf_ext.false)
+    let k = sym (c.is_btf_ext.ensures ∙ ap (is_kind Kind.BtfExt) c.requires.4) in
+    let r = reaches-untargeted a.records.bytes.now a.records.index.now a.records.view a.next.now a.s c.requires.5 c.requires.6 in
+    section-kind a.records.bytes.now a.records.index.now a.records.view a.s a.functions.now c.parse_kind.result _ (k ∙ c.if-is_btf_ext.false)
     (sym (c.untargeted.ensures ∙ r) ∙ c.if-untargeted.false) c.parse_kind.ensures

@@ -10,12 +10,12 @@ pub returns-then-size-eq0 : goal.returns-then-size-eq0
 unfolding invalid_symbol
 returns-then-size-eq0 c = let a = c.args in rw (c.refused.ensures, eq-eqb a.y.size 0 c.if-size-eq0.true)
 
-pub returns-then-size-wide64 : goal.returns-then-size-wide64
+pub returns-then-size-from : goal.returns-then-size-from
 unfolding invalid_symbol
-returns-then-size-wide64 c =
+returns-then-size-from c =
     let a = c.args in
     let l : a.s.bytes.length < a.offset + a.y.size = omega arith in
-    rw (c.refused-then-size-wide64.ensures, ne_eqb a.y.size 0 c.if-size-eq0.false, lt-ltb a.s.bytes.length (a.offset + a.y.size) l)
+    rw (c.refused-then-size-from.ensures, ne_eqb a.y.size 0 c.if-size-eq0.false, lt-ltb a.s.bytes.length (a.offset + a.y.size) l)
 
 pub returns-then-invalid_program_code : goal.returns-then-invalid_program_code
 unfolding invalid_symbol

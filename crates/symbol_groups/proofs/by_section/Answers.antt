@@ -7,4 +7,4 @@ use Rattle.symbol_groups.proofs.by_section.Goals as goal
 pub returns : goal.returns
 returns c =
     let a = c.args in
-    section-order a.d.now a.t.now a.v _ _ (c.count_up.ensures ∙ ap up_to c.requires.1) c.sort.ensures
+    section-order a.records.bytes.now a.records.index.now a.records.view _ _ (c.count_up.ensures ∙ ap up_to c.requires.1) c.sort.ensures
