@@ -1,13 +1,11 @@
 -- The bytes that a map owns, by its number: those of its section's data, or zeros.
-use Rattle.std.specs.Prelude.{◌≡◌, Bool, List, [], ◌++◌, ℕ, ◌+◌, ◌-◌, ◌<◌, ◌≤◌, length, take, drop, replicate}
+use Rattle.std.specs.Prelude.{◌≡◌, Bool, List, [], ℕ, ◌+◌, ◌<◌, ◌≤◌, length, replicate}
 use Rattle.std.proofs.Math.Path.{refl}
-use Rattle.std.proofs.Common.{ap, ◌∙◌, arith, drop-drop}
+use Rattle.std.proofs.Common.{ap, ◌∙◌, arith, length-take-le}
 use Rattle.std.proofs.Math.Bool.{true, false, cond}
 use Rattle.std.proofs.lemmas.List.{length-replicate}
-use Rattle.lists.specs.Part.{length_part}
 use Rattle.model.specs.declared.Extent.{Extent}
 use Rattle.object_view.specs.declared.View.{View}
-use Rattle.model.specs.declared.SectionRecord.{SectionRecord}
 use Rattle.model.specs.declared.EbpfSectionKind.{EbpfSectionKind as Kind}
 use Rattle.model.specs.Contents.{data_map, legacy_map}
 use Rattle.model.specs.Lent.{map_own}
@@ -51,12 +49,6 @@ module _ (d t : List ℕ) (v : View) where
       go : (s : MapSource) → map_own (map_of v.order (section_in d t v) v.sections (symbol_in d t v) v.symbols s) ≡ bytes_in (source_own s)
       go (MapSource.Section i) = of-section i (is_kind Kind.Bss (kind_of (section_in d t v i)))
       go (MapSource.Symbol j) = refl
-
-  -- what a section's record says of it
-  pub section-own : (n i : ℕ) (s : SectionRecord) (k : Kind) (b : Bool) → map_source_of v.sections n ≡ MapSource.Section i → s ≡ section_at d t v i
-      → k ≡ kind_of (section_from d t v s) → b ≡ is_kind Kind.Bss k → cond b (Own.Zeros s.size) (Own.Bytes s.bytes) ≡ own_of n
-  unfolding own_of
-  section-own n i s k b m e f g = rw (m, g, f, e)
 
   -- ---- what it owns is known
 
@@ -102,9 +94,5 @@ module _ (d t : List ℕ) (v : View) where
           own-cases (λ w. Own.Bytes x ≡ w → DataFits d v x) (λ q. let z : ◌≡◌ {A = ℕ} 0 1 = cc in absurd (omega arith))
           (λ i l. (λ q. let z : ◌≡◌ {A = ℕ} 0 1 = cc in absurd (omega arith), λ q. let f : x ≡ (section_at d t v i).bytes = cc in rw f (r.section-data i l)))
 
--- zeros over a part of a list
-pub zeros-laid : (at len : ℕ) (t ys : List ℕ) → at + len ≤ length t → ys ≡ replicate (length (take (at + len - at) (drop at t))) 0
-    → take at t ++ (ys ++ drop (at + len - at) (drop at t)) ≡ take at t ++ (replicate len 0 ++ drop (at + len) t)
-zeros-laid at len t ys room e =
-    let f : at + len - at ≡ len = omega arith in
-    rw (e, f, length_part t at len room, drop-drop len at t)
+-- what is known of the bytes, by what a map owns
+pub ruleset owned = (nothing-bytes, zeros-bytes, zeros-length, zeros-small, data-bytes, data-length, length-take-le)

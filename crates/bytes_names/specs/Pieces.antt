@@ -1,9 +1,10 @@
 -- The name that a number stands for.
 use Rattle.std.specs.Prelude.{◌≡◌, List, ℕ, ◌+◌, ◌≤◌, length}
 use Rattle.std.proofs.Math.Path.{refl}
+use Rattle.std.proofs.Common.{length-take-le}
 use Rattle.model.specs.declared.Extent.{Extent}
 use Rattle.object_view.specs.declared.View.{View}
-use Rattle.stream.specs.Stream.{place, bytes_at, length-bytes}
+use Rattle.stream.specs.Stream.{place, length-bytes}
 use Rattle.records.specs.declared.MapSource.{MapSource}
 use Rattle.records.specs.View.{gap_of, section_at, symbol_at, name_in}
 use Rattle.records.specs.Maps.{map_source_of, source_name as name_at, map_name_at}
@@ -42,15 +43,7 @@ module _ (d t : List ℕ) (v : View) (j : ℕ) where
 abbrev pub PieceInside : Piece → List ℕ → List ℕ → View → ℕ → Type 0
 PieceInside which d t v j = place (gap_of v) (v.at.names + (extent_of which d t v j).at + (extent_of which d t v j).length) ≤ length d
 
--- ---- a range that was read
+pub piece_length : (which : Piece) (d t : List ℕ) (v : View) (j : ℕ) → length (piece_of which d t v j) ≡ (extent_of which d t v j).length
+piece_length which d t v j = length-bytes d (gap_of v) (v.at.names + (extent_of which d t v j).at) (extent_of which d t v j).length
 
-module _ (which : Piece) (d t : List ℕ) (v : View) (j : ℕ) (x : Extent) (read : x ≡ extent_of which d t v j) where
-  pub piece-length : length (piece_of which d t v j) ≡ x.length
-  piece-length = rw (length-bytes, read)
-
-  module _ (gap p n : ℕ) (same : gap ≡ gap_of v) (at : p ≡ v.at.names + x.at) (long : n ≡ x.length) where
-    pub piece_bytes : bytes_at d gap p n ≡ piece_of which d t v j
-    piece_bytes = rw (same, at, long, read)
-
-    pub piece-placed : PieceInside which d t v j → place gap (p + n) ≤ length d
-    piece-placed l = rw (same, at, long, read) l
+pub ruleset named = (piece_length, length-take-le)

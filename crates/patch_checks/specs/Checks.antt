@@ -1,11 +1,10 @@
 -- Numbers 18 to 23, by what is read of an entry, of the symbol that bears its name and of the map of the symbol's section.
 use Rattle.std.proofs.Math.Path.{◌≡◌, refl, ap}
-use Rattle.std.proofs.Common.{sym, ◌∙◌, arith, lt-ltb, le-ltb, length-take-le}
-use Rattle.std.specs.Prelude.{⊤, Bool, not, ◌||◌, ℕ, zero, suc, ◌+◌, ◌-◌, ◌<◌, ◌≤◌, eqb, ltb, length, get_or, take, drop, Err, None, Ok, Option, Result, Some}
+use Rattle.std.proofs.Common.{sym, ◌∙◌, arith, lt-ltb, le-ltb}
+use Rattle.std.specs.Prelude.{⊤, Bool, not, ◌||◌, ℕ, suc, ◌+◌, ◌<◌, ◌≤◌, eqb, ltb, length, get_or, take, drop, Err, None, Ok, Option, Result, Some}
 use Rattle.std.proofs.Math.Bool.{true, false}
 use mathlib.Core.List.{List, [], ◌∷◌, map}
 use Rattle.std.proofs.Math.Numerals.{add-one}
-use Rattle.std.proofs.Math.Seq.{get_or-take}
 use Rattle.lists.specs.Tab.{tab}
 use Rattle.lists.specs.Walk.{drop-tab-next, drop-tab-none}
 use Rattle.lists.specs.Tests.{not_some}
@@ -27,35 +26,30 @@ use Rattle.records.specs.Readable.{Readable}
 use Rattle.patch_symbols.specs.declared.Bearer.{Bearer}
 use Rattle.patch_symbols.specs.Bearers.{bearer_of, bearers_in, bearers-by}
 use Rattle.patch_maps.specs.Places.{map_places}
-use Rattle.patch_maps.specs.Found.{map_place_of, Mapped, no-map, the-map, places-room}
+use Rattle.patch_maps.specs.Found.{map_place_of, place_kept, none-kept, some-kept, Mapped, no-map, the-map}
 use Rattle.patch_checks.specs.Entries.{entry_count, patch_at, patches-are}
 
 abbrev pub past : ℕ → ℕ → ℕ → Bool
 past n at size = ltb n (at + size) || ltb top (at + size)
 
-all_take : (P : ℕ → Type 0) (n : ℕ) (l : List ℕ) → n ≤ length l → ((k : ℕ) → k < n → P (get_or l k 0)) → All P (take n l)
-all_take P zero l h f = tt
-all_take P (suc n) [] h f = let no : ⊥ = omega arith in absurd no
-all_take P (suc n) (x ∷ l) h f = (f 0 (omega arith), all_take P n l (omega arith) (λ k m. f (suc k) (omega arith)))
+all_each : (P : ℕ → Type 0) (l : List ℕ) → ((k : ℕ) → k < length l → P (get_or l k 0)) → All P l
+all_each P [] f = tt
+all_each P (x ∷ l) f = (f 0 (omega arith), all_each P l (λ k m. f (suc k) (omega arith)))
 
 module _ (d t : List ℕ) (v : View) where
-  -- the maps of the first n numbers
-  abbrev pub maps_of_numbers : List ℕ → ℕ → List Map
-  maps_of_numbers maps n = map (map_at d t v) (take n maps)
+  -- the maps of some numbers
+  abbrev pub maps_of_numbers : List ℕ → List Map
+  maps_of_numbers maps = map (map_at d t v) maps
 
-  -- n map numbers, and where the maps of each section stand among them
-  pub record Sited (maps : List ℕ) (n : ℕ) (by : List ℕ) : Type 0 where
+  -- map numbers, and where the maps of each section stand among them
+  pub record Sited (maps by : List ℕ) : Type 0 where
     pub readable : Readable d t v
-    pub within : n ≤ length maps
-    pub fits : (k : ℕ) → k < n → MapFits d t v (get_or maps k 0)
-    pub places : take v.sections by ≡ map_places d t v (take n maps)
+    pub fits : (k : ℕ) → k < length maps → MapFits d t v (get_or maps k 0)
+    pub places : take v.sections by ≡ map_places d t v maps
 
-  pub all_fit : {maps : List ℕ} {n : ℕ} {by : List ℕ} → Sited maps n by → All (MapFits d t v) (take n maps)
-  all_fit {maps} {n} s = all_take (MapFits d t v) n maps s.within s.fits
-
-  module _ (maps : List ℕ) (n : ℕ) (by : List ℕ) (s : Sited maps n by) where
-    pub place-room : v.sections ≤ length by
-    place-room = places-room d t v (take n maps) by s.places
+  module _ (maps by : List ℕ) (s : Sited maps by) where
+    pub all_fit : All (MapFits d t v) maps
+    all_fit = all_each (MapFits d t v) maps s.fits
 
     -- ---- the symbol's place
 
@@ -64,23 +58,17 @@ module _ (d t : List ℕ) (v : View) where
       unfolding symbol_from passes
       own-past m = refl
 
-      pub refused-22 : 0 ≡ map_place_of d t v by y → place_refusal (maps_of_numbers maps n) e (symbol_from d t v y) ≡ of_entry 22 e true
+      pub refused-22 : None ≡ place_kept (map_place_of d t v by y) → place_refusal (maps_of_numbers maps) e (symbol_from d t v y) ≡ of_entry 22 e true
       unfolding place_refusal
-      refused-22 z = rw (no-map d t v s.readable (take n maps) (all_fit s) by s.places y (sym z))
+      refused-22 z = rw (no-map d t v s.readable maps all_fit by s.places y (none-kept _ z))
 
-      module _ (p : ℕ) (is : p ≡ map_place_of d t v by y) (some-map : p ≡ 0 → ⊥) where
-        abbrev pub mapped : Type 0
-        mapped = Mapped d t v s.readable (take n maps) (all_fit s) by s.places y (p - 1)
+      module _ (q : ℕ) (is : Some q ≡ place_kept (map_place_of d t v by y)) where
+        pub map_at_lem : Mapped d t v s.readable maps all_fit by s.places y q
+        map_at_lem = the-map d t v s.readable maps all_fit by s.places y q (some-kept _ _ is)
 
-        pub map_at_lem : mapped
-        map_at_lem = let q : p ≡ suc (p - 1) = omega arith in the-map d t v s.readable (take n maps) (all_fit s) by s.places y (p - 1) (sym is ∙ q)
-
-        pub place-below : p - 1 < n
-        place-below = omega (arith, map_at_lem.within, length-take-le n maps s.within)
-
-        pub by-own : place_refusal (maps_of_numbers maps n) e (symbol_from d t v y) ≡ of_entry 23 e (past (length (map_at d t v (get_or maps (p - 1) 0)).own) y.address y.size)
+        pub by-own : place_refusal (maps_of_numbers maps) e (symbol_from d t v y) ≡ of_entry 23 e (past (length (map_at d t v (get_or maps q 0)).own) y.address y.size)
         unfolding place_refusal
-        by-own = rw (map_at_lem.is, get_or-take n maps (p - 1) 0 place-below) (ap (of_entry 23 e) (own-past (map_at d t v (get_or maps (p - 1) 0))))
+        by-own = rw map_at_lem.is (ap (of_entry 23 e) (own-past (map_at d t v (get_or maps q 0))))
 
   -- ---- the entry
 

@@ -1,24 +1,32 @@
 // A patch list as it is lent, and what refuses it: numbers 18 to 23.
 #![tactic(auto)]
 
-ghost use Rattle.std.specs.Prelude.{◌≡◌, not, ◌^◌, ◌<◌, eqb, get_or, Err};
-ghost use Rattle.model.specs.Bytes.{inside, or_else};
+ghost use Rattle.std.specs.Prelude.{◌≡◌, not, ◌^◌, ◌+◌, ◌<◌, ◌≤◌, eqb, length, get_or, Err};
+ghost use Rattle.model.specs.Bytes.{inside, or_else, part};
 ghost use Rattle.model.specs.Refusals.{no_section, no_symbol, of_entry, place_refusal, entry_refusal, patch_refusal};
-ghost use Rattle.model.specs.PatchList.{patches_of};
+ghost use Rattle.records.specs.Of.{of};
 ghost use Rattle.object.specs.Checked.{checked_of};
 ghost use Rattle.object.specs.View.{symbol_in, symbol_from, object_in};
 ghost use Rattle.patch_symbols.specs.Search.{Searchable};
 ghost use Rattle.patch_checks.specs.Entries.{NamesFound, entry_count, patch_entry_at, longer as longer_of, longest, patch_by};
+ghost use Rattle.patch_checks.specs.Lists.{patches_in};
 ghost use Rattle.patch_checks.specs.Checks.{past, maps_of_numbers, Sited};
 
 use bytes_maps::own_length;
 use model::{Range, Refusal, SectionIndex, SymbolIndex, SymbolRecord};
-use object_view::View;
 use patch_maps::place_of;
 use patch_symbols::{Bearer, bearer_of};
-use records::symbol;
+use records::Object;
+
+// A patch list as it is lent: five numbers an entry, and the bytes that their ranges lie in.
+#[derive(Clone, Copy)]
+pub struct PatchList<'a> {
+    pub entries: &'a [u64],
+    pub bytes: &'a [u8],
+}
 
 // Five numbers of the list: whether all are lent, the name, the data and the must-exist mark.
+// A short last entry is one too, and no `None`: the numbers that it lacks are 0, number 18 refuses it, and `longest_name` counts its name.
 #[derive(Clone, Copy)]
 pub struct Entry {
     pub whole: bool,
@@ -35,6 +43,7 @@ fn number(entries: &[u64], i: usize) -> u64
 }
 
 // Entry e, counted from 0.
+#[tactic(auto, unfolding(crate::specs::Entries::patch_entry_at))]
 pub fn entry_at(entries: &[u64], e: usize) -> Entry
     requires { e < 2 ^ 60 }
     ensures { result ≡ patch_entry_at entries.now e }
@@ -67,6 +76,7 @@ fn longer(so_far: u32, n: u64) -> u32
 }
 
 // How many bytes the longest name of the list has that a symbol may bear.
+#[tactic(auto, unfolding(crate::specs::Entries::longest))]
 pub fn longest_name(entries: &[u64]) -> u32
     ensures { result ≡ longest entries.now (entry_count entries.now) }
 {
@@ -75,6 +85,15 @@ pub fn longest_name(entries: &[u64]) -> u32
         bytes = longer(bytes, entry_at(entries, e).name.length);
     }
     bytes
+}
+
+// The bytes of a range that lies inside.
+pub fn part(bytes: &[u8], r: Range) -> &[u8]
+    requires { r.at + r.length ≤ length bytes.now }
+    ensures { result.now ≡ part bytes.now r.at r.length }
+{
+    let at = r.at as usize;
+    &bytes[at..at + r.length as usize]
 }
 
 // Whether a range lies inside a buffer of n bytes.
@@ -114,25 +133,21 @@ fn of_entry(number: u32, entry: u64) -> Result<(), Refusal>
 
 // Numbers 22 and 23.
 fn place_refusal(
-    d: &[u8],
-    t: &[u32],
-    v: View,
+    object: Object,
     maps: &[u32],
-    n: usize,
     by: &[u32],
     y: SymbolRecord,
     e: u64,
 ) -> Result<(), Refusal>
-    requires { Sited d.now t.now v maps.now n by.now }
+    requires { of Sited object.records maps.now by.now }
     ensures { result
         ≡ checked_of
-        (place_refusal (maps_of_numbers d.now t.now v maps.now n) e (symbol_from d.now t.now v y)) }
+        (place_refusal (of maps_of_numbers object.entry.records maps.now) e (of symbol_from object.entry.records y)) }
 {
-    let place = place_of(d, t, v, by, y);
-    if place == 0 {
+    let Some(place) = place_of(object, by, y) else {
         return of_entry(22, e);
-    }
-    let own = own_length(d, t, v, maps[place - 1]);
+    };
+    let own = own_length(object.records, maps[place]);
     if passes(own, y.address, y.size) {
         return of_entry(23, e);
     }
@@ -140,84 +155,73 @@ fn place_refusal(
 }
 
 // Numbers 21 to 23, for data of so many bytes.
+#[tactic(auto, using(std::proofs::lemmas::Bool::Decides::nat_tests), unfolding(object::specs::View::symbol_from))]
 fn symbol_refusal(
-    d: &[u8],
-    t: &[u32],
-    v: View,
+    object: Object,
     maps: &[u32],
-    n: usize,
     by: &[u32],
     j: u32,
     length: u64,
     e: u64,
 ) -> Result<(), Refusal>
-    requires { Sited d.now t.now v maps.now n by.now }
+    requires { of Sited object.records maps.now by.now }
     ensures { result
         ≡ checked_of
-        (or_else (of_entry 21 e (not (eqb length (symbol_in d.now t.now v j).size)))
-        (place_refusal (maps_of_numbers d.now t.now v maps.now n) e (symbol_in d.now t.now v j))) }
+        (or_else (of_entry 21 e (not (eqb length (of symbol_in object.entry.records j).size)))
+        (place_refusal (of maps_of_numbers object.entry.records maps.now) e (of symbol_in object.entry.records j))) }
 {
-    let y = symbol(d, t, v, j);
+    let y = object.records.symbol(j);
     if length != y.size {
         return of_entry(21, e);
     }
-    place_refusal(d, t, v, maps, n, by, y, e)
+    place_refusal(object, maps, by, y, e)
 }
 
 // What refuses an entry, which is entry e counted from 1.
 fn entry_refusal(
-    d: &[u8],
-    t: &[u32],
-    v: View,
+    object: Object,
     x: Entry,
     patches: &[u8],
     symbols: &[u32],
     maps: &[u32],
-    n: usize,
     by: &[u32],
     e: u64,
 ) -> Result<(), Refusal>
-    requires { Sited d.now t.now v maps.now n by.now × Searchable d.now t.now v symbols.now x.name.length }
+    requires { of Sited object.records maps.now by.now × of Searchable object.records symbols.now x.name.length }
     ensures { result
         ≡ checked_of
-        (entry_refusal (object_in d.now t.now v) (maps_of_numbers d.now t.now v maps.now n) e
+        (entry_refusal (of object_in object.entry.records) (of maps_of_numbers object.entry.records maps.now) e
         (patch_by patches.now x)) }
 {
     if !is_lent(x, patches) || x.mark > 1 {
         return of_entry(18, e);
     }
-    let at = x.name.at as usize;
-    let end = at + x.name.length as usize;
-    match bearer_of(d, t, v, symbols, &patches[at..end]) {
-        Bearer::Nothing => { if x.mark == 1 { of_entry(20, e) } else { Ok(()) } }
-        Bearer::One(j) => symbol_refusal(d, t, v, maps, n, by, j, x.bytes.length, e),
+    match bearer_of(object, symbols, part(patches, x.name)) {
+        Bearer::Nothing if x.mark == 1 => of_entry(20, e),
+        Bearer::Nothing => Ok(()),
+        Bearer::One(j) => symbol_refusal(object, maps, by, j, x.bytes.length, e),
         Bearer::Several => of_entry(19, e),
     }
 }
 
 // What refuses the list: the first entry that is refused.
 pub fn patch_refusal(
-    d: &[u8],
-    t: &[u32],
-    v: View,
-    entries: &[u64],
-    patches: &[u8],
+    object: Object,
+    list: PatchList,
     symbols: &[u32],
     maps: &[u32],
-    n: usize,
     by: &[u32],
 ) -> Result<(), Refusal>
-    requires { Sited d.now t.now v maps.now n by.now × NamesFound d.now t.now v entries.now symbols.now }
+    requires { of Sited object.records maps.now by.now × of NamesFound object.records list.entries.now symbols.now }
     ensures { result
         ≡ checked_of
-        (patch_refusal (object_in d.now t.now v) (maps_of_numbers d.now t.now v maps.now n) 1
-        (patches_of entries.now patches.now)) }
+        (patch_refusal (of object_in object.entry.records) (of maps_of_numbers object.entry.records maps.now) 1
+        (patches_in list.entry)) }
 {
-    let count = entries.len().div_ceil(5);
+    let count = list.entries.len().div_ceil(5);
     for e in 0..count {
-        let x = entry_at(entries, e);
-        let entry = (e + 1) as u64;
-        entry_refusal(d, t, v, x, patches, symbols, maps, n, by, entry)?;
+        let x = entry_at(list.entries, e);
+        entry_refusal(object, x, list.bytes, symbols, maps, by, e as u64 + 1)?;
     }
     Ok(())
 }

@@ -3,7 +3,7 @@ use Rattle.std.specs.Prelude.{◌≡◌, take, drop}
 use Rattle.std.proofs.Math.Path.{refl, sym, ap}
 use Rattle.std.proofs.Common.{◌∙◌, not-suc-le-zero, le_of_suc-le-suc, add-zero, drop-drop}
 use mathlib.Core.List.{List, [], ◌∷◌, ◌++◌, map, append_assoc}
-use Prim.Native.Nat.{ℕ, zero, suc, ◌+◌, ◌*◌, ◌<◌, ◌≤◌}
+use Prim.Native.Nat.{ℕ, zero, suc, ◌+◌, ◌-◌, ◌*◌, ◌<◌, ◌≤◌}
 use native.Mathlib.Omega.{arith}
 use Rattle.std.proofs.Math.ListN.{length, get_or, length-append}
 use Rattle.std.proofs.Math.Seq.{sets, take-append-add, drop-append-add, get_or-append-add}
@@ -79,7 +79,7 @@ module _ (f : ℕ → Map) where
       ∙ s
 
 -- a part of a list that is lent and copied over as a whole
-pub stored : (l src : List ℕ) (at m : ℕ) → length src ≡ m → at + m ≤ length l → take at l ++ (src ++ drop m (drop at l)) ≡ sets l at src
-stored l src at m e h =
-    let i : at + length src ≤ length l = rw e h in
-    rw (drop-drop m at l, sets-eq src l at i, e, append_assoc)
+pub stored : (l src : List ℕ) (at : ℕ) → at + length src ≤ length l → take at l ++ (src ++ drop (at + length src - at) (drop at l)) ≡ sets l at src
+stored l src at h =
+    let e : at + length src - at ≡ length src = omega arith in
+    rw (e, drop-drop (length src) at l, sets-eq src l at h, append_assoc)

@@ -1,11 +1,11 @@
 -- The map of a symbol's section, found by its place.
 use Rattle.std.specs.Prelude.{◌≡◌, Bool, ◌⊎◌, length, take, None, Option, Some}
 use Rattle.std.proofs.Math.Path.{refl, sym, ap}
-use Rattle.std.proofs.Common.{◌∙◌, length-take, take_at, get_or-take}
+use Rattle.std.proofs.Common.{◌∙◌, take_at, get_or-take}
 use Rattle.std.proofs.Math.Bool.{true, false, cond}
 use mathlib.Core.List.{List, [], ◌∷◌, ◌++◌, map}
 use Rattle.std.proofs.Math.Logic.{inl, inr, ⊎_elim}
-use Prim.Native.Nat.{ℕ, zero, suc, ◌+◌, ◌<◌, ◌≤◌}
+use Prim.Native.Nat.{ℕ, zero, suc, ◌+◌, ◌-◌, ◌<◌}
 use native.Mathlib.Omega.{arith}
 use borrow.Author.Tests.{eq-eqb, ne_eqb, eqb-true, eqb-false}
 use Rattle.std.proofs.Math.Dec.{eqb}
@@ -13,7 +13,6 @@ use Rattle.std.proofs.Math.ListN.{get_or}
 use Rattle.lists.specs.Tab.{tab, length-tab, get_or-tab}
 use Rattle.lists.specs.Tests.{not_some}
 use Rattle.object_view.specs.declared.View.{View}
-use Rattle.object_view.specs.NoIndex.{is_none}
 use Rattle.model.specs.declared.SectionIndex.{SectionIndex}
 use Rattle.model.specs.declared.SymbolRecord.{SymbolRecord}
 use Rattle.model.specs.Bytes.{first_in, find, or_else, maybe}
@@ -99,10 +98,22 @@ found_below d t v p (suc n) i e =
 abbrev section_of : SymbolRecord → Option SectionIndex
 section_of y = unless_none y.section.0 y.section
 
--- the place that a list says for an owner
-abbrev pub owner_place : List ℕ → Option ℕ → ℕ
-owner_place by None = 0
-owner_place by (Some i) = get_or by i 0
+-- a list of places keeps one more than a place, and 0 for none
+abbrev pub place_kept : ℕ → Option ℕ
+place_kept zero = None
+place_kept (suc q) = Some q
+
+pub none-kept : (n : ℕ) → None ≡ place_kept n → n ≡ 0
+none-kept zero e = refl
+none-kept (suc n) e = let z : ◌≡◌ {A = ℕ} 0 1 = cc in absurd (omega arith)
+
+pub some-kept : (n q : ℕ) → Some q ≡ place_kept n → n ≡ suc q
+some-kept zero q e = let z : ◌≡◌ {A = ℕ} 0 1 = cc in absurd (omega arith)
+some-kept (suc n) q e = cc
+
+pub kept-some : (n : ℕ) → 0 < n → Some (n - 1) ≡ place_kept n
+kept-some zero l = absurd (omega arith)
+kept-some (suc n) l = ap (λ (k : ℕ). Some k) (omega arith)
 
 -- the place that a list of places says for a symbol's section
 abbrev pub map_place_of : List ℕ → List ℕ → View → List ℕ → SymbolRecord → ℕ
@@ -233,30 +244,3 @@ pub places-front : (d t : List ℕ) (v : View) (ns by r : List ℕ) → by ≡ m
 unfolding map_places
 places-front d t v ns by r e =
     ap (take v.sections) e ∙ take_at (map_places d t v ns) r v.sections (length-tab (λ i. first_place_from 0 i (map (map_home d t v) ns)) v.sections)
-
--- a list of places has one for each section
-pub places-room : (d t : List ℕ) (v : View) (ns by : List ℕ) → take v.sections by ≡ map_places d t v ns → v.sections ≤ length by
-unfolding map_places
-places-room d t v ns by e =
-    let l : length (take v.sections by) ≡ v.sections = ap length e ∙ length-tab (λ i. first_place_from 0 i (map (map_home d t v) ns)) v.sections in
-    omega (arith, length-take v.sections by)
-
--- ---- what a look at the symbol's record and at the list of places answers
-
-module _ (d t : List ℕ) (v : View) (by : List ℕ) (y : SymbolRecord) where
-  pub no-section : is_none y.section.0 ≡ true → 0 ≡ map_place_of d t v by y
-  no-section e = rw e
-
-  place-by : (o : Option ℕ) (w : Option ℕ) → w ≡ o → owner_place by w ≡ maybe o 0 (λ i. get_or by i 0)
-  place-by None w e = rw e
-  place-by (Some i) w e = rw e
-
-  pub some-section : (w : Option ℕ) → is_none y.section.0 ≡ false → w ≡ owner_in d t v y.section.0 → owner_place by w ≡ map_place_of d t v by y
-  some-section w n e = rw n (place-by (owner_in d t v y.section.0) w e)
-
-pub owner-below : (d t : List ℕ) (v : View) → Readable d t v → (k i : ℕ) → Some i ≡ owner_in d t v k → i < v.sections
-owner-below d t v rise k i e = go (owner_in d t v k) refl e
-  where
-    go : (o : Option ℕ) → owner_in d t v k ≡ o → Some i ≡ o → i < v.sections
-    go None u q = let z : ◌≡◌ {A = ℕ} 0 1 = cc in absurd (omega arith)
-    go (Some j) u q = let w : i ≡ j = cc in rw w (owned-some d t v rise k j u).0

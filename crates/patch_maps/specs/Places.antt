@@ -1,11 +1,10 @@
 -- For each section the place of its first map in a table of map numbers.
-use Rattle.std.specs.Prelude.{◌≡◌, Bool, true, false, cond, List, [], ◌∷◌, ◌++◌, map, ℕ, suc, ◌+◌, ◌<◌, ◌≤◌, eqb, length, get_or, take, drop, set}
+use Rattle.std.specs.Prelude.{◌≡◌, Bool, true, false, cond, List, [], ◌∷◌, ◌++◌, map, ℕ, suc, ◌+◌, ◌<◌, eqb, length, get_or, drop, set}
 use Rattle.std.proofs.Math.Path.{refl, ap}
-use Rattle.std.proofs.Common.{sym, ◌∙◌, arith, add-one, eqb-true, length-set, drop_at, get_or-set_same, get_or-set_other}
+use Rattle.std.proofs.Common.{sym, ◌∙◌, add-one, eqb-true, length-set, drop_of_length-le, le_refl, get_or-set_same, get_or-set_other}
 use Rattle.std.proofs.lemmas.Bool.{eqb-false}
-use Rattle.std.proofs.Math.Seq.{slice}
+use Rattle.std.proofs.Math.Seq.{drop-cons}
 use Rattle.std.proofs.lemmas.List.{set-append_left}
-use Rattle.lists.specs.Slice.{slice-next, slice-none}
 use Rattle.lists.specs.Tab.{tab, length-tab, get_or-tab, tab-ext, is-tab}
 use Rattle.object_view.specs.declared.View.{View}
 use Rattle.records.specs.declared.MapSource.{MapSource}
@@ -31,10 +30,6 @@ set-tab f n j v r h =
         rw q (get_or-set_same (tab f n) i v 0 l)
     at i m false e = get_or-set_other (tab f n) j i v 0 (λ q. eqb-false j i e (sym q)) ∙ get_or-tab f n i 0 m
 
--- what stands behind the places is as it was
-pub cleared : (n : ℕ) (b₀ b : List ℕ) (s : ℕ) → s ≡ n → b₀ ≡ tab (λ i. 0) s ++ drop s b → drop n b₀ ≡ drop n b
-cleared n b₀ b s e f = rw (f, e) (drop_at (tab (λ i. 0) n) (drop n b) n (length-tab (λ i. 0) n))
-
 module _ (d t : List ℕ) (v : View) where
   abbrev pub source_home : MapSource → ℕ
   source_home (MapSource.Section i) = i
@@ -57,25 +52,17 @@ module _ (d t : List ℕ) (v : View) where
   map_places ns = tab (λ i. first_place_from 0 i (map map_home ns)) v.sections
 
   -- the same of the maps from place k on
-  module _ (maps : List ℕ) (n : ℕ) where
+  module _ (maps : List ℕ) where
     unfoldable pub places_from : ℕ → List ℕ
-    places_from k = tab (λ i. first_place_from k i (map map_home (slice k n maps))) v.sections
+    places_from k = tab (λ i. first_place_from k i (map map_home (drop k maps))) v.sections
 
-    places-none : places_from n ≡ tab (λ i. 0) v.sections
+    pub places-none : places_from (length maps) ≡ tab (λ i. 0) v.sections
     unfolding places_from first_place_from
-    places-none = tab-ext _ _ v.sections (λ i l. rw (slice-none n n maps (omega arith)))
+    places-none = rw (drop_of_length-le maps (le_refl (length maps)))
 
-    -- the list of places, cleared
-    pub places-start : (b₀ b : List ℕ) (s : ℕ) → s ≡ v.sections → b₀ ≡ tab (λ i. 0) s ++ drop s b → b₀ ≡ places_from n ++ drop v.sections b₀
-    places-start b₀ b s e f = f ∙ rw (cleared v.sections b₀ b s e f, places-none, e)
-
-    pub places-more : (k : ℕ) (r : List ℕ) → k < n → n ≤ length maps → map_home (get_or maps k 0) < v.sections
+    pub places-more : (k : ℕ) (r : List ℕ) → k < length maps → map_home (get_or maps k 0) < v.sections
         → set (places_from (k + 1) ++ r) (map_home (get_or maps k 0)) (k + 1) ≡ places_from k ++ r
     unfolding places_from first_place_from
-    places-more k r l m b =
-        set-tab (λ i. first_place_from (k + 1) i (map map_home (slice (k + 1) n maps))) v.sections (map_home (get_or maps k 0)) (k + 1) r b
-        ∙ ap (λ t. t ++ r) (tab-ext _ _ v.sections (λ i q. rw (slice-next k n maps 0 l m, add-one)))
-
-    pub places-all : places_from 0 ≡ map_places (take n maps)
-    unfolding places_from map_places
-    places-all = refl
+    places-more k r l b =
+        set-tab (λ i. first_place_from (k + 1) i (map map_home (drop (k + 1) maps))) v.sections (map_home (get_or maps k 0)) (k + 1) r b
+        ∙ ap (λ t. t ++ r) (tab-ext _ _ v.sections (λ i q. rw (drop-cons maps k 0 l, add-one)))

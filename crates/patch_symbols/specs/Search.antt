@@ -29,9 +29,9 @@ use Rattle.patch_symbols.specs.Bearers.{bearer_of, bearers_in}
 
 -- ---- an answer of a comparison, as a test
 
-pub less-before : (a b : List ℕ) → is_lt (ordering a b) ≡ before a b
+pub less_before : (a b : List ℕ) → is_lt (ordering a b) ≡ before a b
 unfolding ordering
-less-before a b = go (same a b) (before a b) refl refl
+less_before a b = go (same a b) (before a b) refl refl
   where
     go : (s t : Bool) → same a b ≡ s → before a b ≡ t → is_lt (by_tests s t) ≡ t
     go true true p q = true-not-false (sym q ∙ ap (before a) (sym (same-is a b p)) ∙ before-irrefl a)
@@ -39,9 +39,9 @@ less-before a b = go (same a b) (before a b) refl refl
     go false true p q = refl
     go false false p q = refl
 
-pub equal-same : (a b : List ℕ) → is_eq (ordering a b) ≡ same b a
+pub equal_same : (a b : List ℕ) → is_eq (ordering a b) ≡ same b a
 unfolding ordering
-equal-same a b = go (same a b) (before a b) ∙ same-flip a b
+equal_same a b = go (same a b) (before a b) ∙ same-flip a b
   where
     go : (s t : Bool) → is_eq (by_tests s t) ≡ s
     go true t = refl
@@ -197,11 +197,6 @@ module _ (d t : List ℕ) (v : View) where
     pub enough : size ≤ 65535 → size ≤ bytes
     pub is : order ≡ by_name bytes
 
-  -- all numbers, counted up and sorted
-  pub name-order : (n : ℕ) (l m : List ℕ) → l ≡ up_to v.symbols → m ≡ sorted (by_key (cut_name n)) l → m ≡ by_name n
-  unfolding by_name
-  name-order n l m p q = q ∙ ap (sorted (by_key (cut_name n))) p
-
   by_name-ordered : (n : ℕ) → Ordered (by_key (cut_name n)) (by_name n)
   unfolding by_name
   by_name-ordered n = sorted-ordered (by_key (cut_name n)) (key-order (cut_name n)) (up_to v.symbols)
@@ -289,6 +284,3 @@ module _ (d t : List ℕ) (v : View) where
       pub several-bear : has_at length_and_name (length_first word) order r ≡ true → has_at length_and_name (length_first word) order (r + 1) ≡ true
           → Bearer.Several ≡ bearer_of (bearers_in d t v word)
       several-bear p q = sym (several key (length_first word) order ordered r first-cut (has-cut r ∙ p) (has-cut (r + 1) ∙ q)) ∙ kept
-
-pub stands-there : (key : ℕ → List ℕ) (word l : List ℕ) (i : ℕ) → has_at key word l i ≡ true → i < length l
-stands-there key word l i e = ltb-true i (length l) (both_true (ltb i (length l)) (same word (key_at key word l i)) e).0

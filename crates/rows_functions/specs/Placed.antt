@@ -1,6 +1,6 @@
 -- The rows that are stored are the catalogue's, behind which the table is filled with zeros.
-use Rattle.std.specs.Prelude.{◌≡◌, refl, get_or, take, drop}
-use Rattle.std.proofs.Common.{sym, ◌∙◌, ⊎_elim, eq-or-lt_of_le, lt-ltb, length-append, drop-cons, get_or-take, length-take-le}
+use Rattle.std.specs.Prelude.{◌≡◌, refl, get_or, drop}
+use Rattle.std.proofs.Common.{sym, ◌∙◌, ⊎_elim, eq-or-lt_of_le, lt-ltb, length-append, drop-cons}
 use Rattle.std.proofs.Math.Path.{ap}
 use mathlib.Core.List.{List, [], ◌∷◌, map}
 use Prim.Native.Nat.{ℕ, zero, suc, ◌+◌, ◌-◌, ◌*◌, ◌/◌, ◌^◌, ◌<◌, ◌≤◌, min}
@@ -44,9 +44,9 @@ module _ (d t : List ℕ) (v : View) where
   abbrev pub function_of_number : ℕ → Function
   function_of_number = function_by d t v
 
-  -- n rows are to be stored, whose names and code begin at a and c
-  abbrev pub rows_from : ℕ → ℕ → ℕ → Rows
-  rows_from n a c = record { view = v; count = n; name = a; code = c }
+  -- the names and the code of the next row begin at a and c
+  abbrev pub rows_from : ℕ → ℕ → Rows
+  rows_from a c = record { name = a; code = c }
 
   -- ---- one row
 
@@ -74,42 +74,38 @@ module _ (d t : List ℕ) (v : View) where
     code-length : length (function_code (function_of_number j)) ≡ code_length y
     code-length = ap (λ (f : Function). length (function_code f)) (function-is d t v j) ∙ plain_code
 
-    module _ (n a c : ℕ) where
-      plain_row : function_row a c plain ≡ (row_made d t j (rows_from n a c)).row
+    module _ (a c : ℕ) where
+      plain_row : function_row a c plain ≡ (row_made d t v j (rows_from a c)).row
       unfolding function_row row_made function_at section_from symbol_from
       plain_row = λ k. record { section = s.index; address = y.address; offset = start_of d t v j; name = range a (plain-name k); code = range c (plain_code k) }
 
-      row_is : (row_made d t j (rows_from n a c)).row ≡ function_row a c (function_of_number j)
+      row_is : (row_made d t v j (rows_from a c)).row ≡ function_row a c (function_of_number j)
       row_is = sym (ap (function_row a c) (function-is d t v j) ∙ plain_row)
 
       rest-is : a + length (function_name (function_of_number j)) ≤ top → c + length (function_code (function_of_number j)) ≤ top
-          → (row_made d t j (rows_from n a c)).rest ≡ rows_from n (a + length (function_name (function_of_number j))) (c + length (function_code (function_of_number j)))
+          → (row_made d t v j (rows_from a c)).rest ≡ rows_from (a + length (function_name (function_of_number j))) (c + length (function_code (function_of_number j)))
       unfolding row_made
       rest-is p q =
           let e : min (a + y.name.length) top ≡ a + length (function_name (function_of_number j)) = under_top _ _ (ap (λ (m : ℕ). a + m) (sym name-length)) p in
           let f : min (c + code_length y) top ≡ c + length (function_code (function_of_number j)) = under_top _ _ (ap (λ (m : ℕ). c + m) (sym code-length)) q in
-          λ k. record { view = v; count = n; name = e k; code = f k }
+          λ k. record { name = e k; code = f k }
 
   -- ---- all of them
 
-  module _ (order : List ℕ) (n : ℕ) (known : n ≤ length order) where
+  module _ (order : List ℕ) where
     -- the numbers from number i on
     abbrev from : ℕ → List ℕ
-    from i = drop i (take n order)
-
-    long : length (take n order) ≡ n
-    long = length-take-le n order known
+    from i = drop i order
 
     abbrev rows_at : ℕ → ℕ → List Function → List FunctionRow
     rows_at = placed function_name function_code function_row
 
-    past : (m i a c : ℕ) → n ≤ i → rows_made d t order i (rows_from n a c) m ≡ filled zero_row m (rows_at a c (map function_of_number (from i)))
+    past : (m i a c : ℕ) → length order ≤ i → rows_made d t v order i (rows_from a c) m ≡ filled zero_row m (rows_at a c (map function_of_number (from i)))
     unfolding placed
     past m i a c l =
-        let g : length (take n order) ≤ i = rw long l in
-        let e : from i ≡ [] = drop_of_length-le (take n order) g in
+        let e : from i ≡ [] = drop_of_length-le order l in
         let f : m - 0 ≡ m = omega arith in
-        rows-past d t order i (rows_from n a c) m l ∙ rw (e, f)
+        rows-past d t v order i (rows_from a c) m l ∙ rw (e, f)
 
     filled_more : (m a c j : ℕ) (js : List ℕ)
         → function_row a c (function_of_number j) ∷ filled zero_row m (rows_at (a + length (function_name (function_of_number j))) (c + length (function_code (function_of_number j))) (map function_of_number js))
@@ -125,7 +121,7 @@ module _ (d t : List ℕ) (v : View) where
     Ends i a c = (a + length (each function_name (map function_of_number (from i))) ≤ top) × (c + length (each function_code (map function_of_number (from i))) ≤ top)
 
     -- the row of number i, and those behind it
-    module _ (m i a c : ℕ) (lt : i < n) (ends : Ends i a c) where
+    module _ (m i a c : ℕ) (lt : i < length order) (ends : Ends i a c) where
       abbrev j : ℕ
       j = get_or order i 0
 
@@ -136,7 +132,7 @@ module _ (d t : List ℕ) (v : View) where
       c' = c + length (function_code (function_of_number j))
 
       cut : from i ≡ j ∷ from (suc i)
-      cut = let within : i < length (take n order) = rw long lt in drop-cons (take n order) i 0 within ∙ rw (get_or-take n order i 0 lt)
+      cut = drop-cons order i 0 lt
 
       part_of : (p : Function → List ℕ) → length (each p (map function_of_number (from i))) ≡ length (p (function_of_number j)) + length (each p (map function_of_number (from (suc i))))
       part_of p = ap (λ (js : List ℕ). length (each p (map function_of_number js))) cut ∙ each-cons p (function_of_number j) (map function_of_number (from (suc i)))
@@ -144,19 +140,17 @@ module _ (d t : List ℕ) (v : View) where
       ends-behind : Ends (suc i) a' c'
       ends-behind = (omega (arith, part_of function_name, ends.0), omega (arith, part_of function_code, ends.1))
 
-      next-stored : rows_made d t order (suc i) (rows_from n a' c') m ≡ filled zero_row m (rows_at a' c' (map function_of_number (from (suc i))))
-          → rows_made d t order i (rows_from n a c) (suc m) ≡ filled zero_row (suc m) (rows_at a c (map function_of_number (from i)))
+      next-stored : rows_made d t v order (suc i) (rows_from a' c') m ≡ filled zero_row m (rows_at a' c' (map function_of_number (from (suc i))))
+          → rows_made d t v order i (rows_from a c) (suc m) ≡ filled zero_row (suc m) (rows_at a c (map function_of_number (from i)))
       unfolding rows_made
       next-stored e =
-          let made : made_of d t order i (rows_from n a c) ≡ row_made d t j (rows_from n a c) =
-          made_row d t order i (rows_from n a c) (lt-ltb i n lt) (lt-ltb i (length order) (omega arith))
-          in
-          rw (made, row_is j n a c, rest-is j n a c (omega (arith, part_of function_name, ends.0)) (omega (arith, part_of function_code, ends.1)))
+          let made : made_of d t v order i (rows_from a c) ≡ row_made d t v j (rows_from a c) = made_row d t v order i (rows_from a c) (lt-ltb i (length order) lt) in
+          rw (made, row_is j a c, rest-is j a c (omega (arith, part_of function_name, ends.0)) (omega (arith, part_of function_code, ends.1)))
           (ap (λ (rs : List FunctionRow). function_row a c (function_of_number j) ∷ rs) e
           ∙ filled_more m a c j (from (suc i))
           ∙ ap (λ (js : List ℕ). filled zero_row (suc m) (rows_at a c (map function_of_number js))) (sym cut))
 
-    stored-from : (m i a c : ℕ) → i ≤ n → n - i ≤ m → Ends i a c → rows_made d t order i (rows_from n a c) m ≡ filled zero_row m (rows_at a c (map function_of_number (from i)))
+    stored-from : (m i a c : ℕ) → i ≤ length order → length order - i ≤ m → Ends i a c → rows_made d t v order i (rows_from a c) m ≡ filled zero_row m (rows_at a c (map function_of_number (from i)))
     stored-from zero i a c l room ends = past zero i a c (omega arith)
     stored-from (suc m) i a c l room ends =
         ⊎_elim (λ e. past (suc m) i a c (omega arith))
@@ -164,6 +158,6 @@ module _ (d t : List ℕ) (v : View) where
         (eq-or-lt_of_le l)
 
     -- the table that is stored is the catalogue's, where its names and code end below 2^64
-    pub rows_are : (m a c : ℕ) → n ≤ m → a + length (each function_name (map function_of_number (take n order))) < 2 ^ 64 → c + length (each function_code (map function_of_number (take n order))) < 2 ^ 64
-        → rows_made d t order 0 (rows_from n a c) m ≡ filled zero_row m (placed function_name function_code function_row a c (map function_of_number (take n order)))
+    pub rows_are : (m a c : ℕ) → length order ≤ m → a + length (each function_name (map function_of_number order)) < 2 ^ 64 → c + length (each function_code (map function_of_number order)) < 2 ^ 64
+        → rows_made d t v order 0 (rows_from a c) m ≡ filled zero_row m (placed function_name function_code function_row a c (map function_of_number order))
     rows_are m a c l p q = stored-from m 0 a c (omega arith) (omega arith) (omega arith, omega arith)

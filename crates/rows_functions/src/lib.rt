@@ -1,25 +1,22 @@
 // The function table in a lent slice of structs: its rows stored in the order of a table of record numbers, and the look-up of a row by section and address.
 #![tactic(auto)]
 
-ghost use Rattle.std.specs.Prelude.{◌≡◌, [], ◌∷◌, ◌<◌, length};
+ghost use Rattle.std.specs.Prelude.{◌≡◌, [], ◌∷◌, length};
 ghost use Rattle.model.specs.Lent.{zero_row};
 ghost use Rattle.model.specs.LookUp.{row_key, found_in};
-ghost use Rattle.records.specs.Readable.{Readable};
-ghost use Rattle.rows_functions.specs.Rows.{ReadableRows, row_made, made_of, rows_made};
+ghost use Rattle.records.specs.Of.{of};
+ghost use Rattle.rows_functions.specs.Rows.{row_made, made_of, rows_made};
 ghost use Rattle.orders.specs.Compare.{ordering};
-ghost use Rattle.rows_functions.specs.Search.{middle_of, begun, narrowed};
 
 use model::{Function, Range, SectionIndex};
 use object::code_offset;
-use object_view::View;
+use records::Object;
 use std::cmp::Ordering;
 use symbol_section::member_at;
 
-// Which rows are left to store: those of the first `count` numbers, and where the next name and the next code lie.
+// Where the name and the code of the next row begin among the bytes.
 #[derive(Clone, Copy)]
 pub struct Rows {
-    pub view: View,
-    pub count: usize,
     pub name: u64,
     pub code: u64,
 }
@@ -31,12 +28,11 @@ pub struct Made {
 }
 
 // The row of symbol record j.
-fn row(d: &[u8], t: &[u32], j: u32, rows: Rows) -> Made
-    requires { Readable d.now t.now rows.view }
-    ensures { result ≡ row_made d.now t.now j rows }
+#[tactic(auto, unfolding(crate::specs::Rows::row_made))]
+fn row(object: Object, j: u32, rows: Rows) -> Made
+    ensures { result ≡ of row_made object.entry.records j rows }
 {
-    let v = rows.view;
-    let m = member_at(d, t, v, j);
+    let m = member_at(object, j);
     let y = m.symbol;
     let s = m.section;
     let name = u64::from(y.name.length);
@@ -45,7 +41,7 @@ fn row(d: &[u8], t: &[u32], j: u32, rows: Rows) -> Made
         row: Function {
             section: s.index,
             address: y.address,
-            offset: code_offset(d, t, v, s, y),
+            offset: code_offset(object.records, s, y),
             name: Range {
                 at: rows.name,
                 length: name,
@@ -56,15 +52,14 @@ fn row(d: &[u8], t: &[u32], j: u32, rows: Rows) -> Made
             },
         },
         rest: Rows {
-            view: v,
-            count: rows.count,
             name: rows.name.saturating_add(name),
             code: rows.code.saturating_add(code),
         },
     }
 }
 
-fn zero_row() -> Function
+// A row of zeros.
+pub fn zero_row() -> Function
     ensures { result ≡ zero_row }
 {
     Function {
@@ -76,100 +71,36 @@ fn zero_row() -> Function
     }
 }
 
-// Row i, and what is left behind it; past the last number a row of zeros.
-pub fn next_row(d: &[u8], t: &[u32], symbols: &[u32], i: usize, rows: Rows) -> Made
-    requires { ReadableRows d.now t.now rows }
-    ensures { result ≡ made_of d.now t.now symbols.now i rows }
+// Row i, and what is left behind it; past the last symbol a row of zeros.
+#[tactic(auto, unfolding(crate::specs::Rows::made_of))]
+pub fn function_row(object: Object, symbols: &[u32], i: usize, rows: Rows) -> Made
+    ensures { result ≡ of made_of object.entry.records symbols.now i rows }
 {
-    if i < rows.count && i < symbols.len() {
-        row(d, t, symbols[i], rows)
-    } else {
-        Made {
+    match symbols.get(i) {
+        Some(j) => row(object, *j, rows),
+        None => Made {
             row: zero_row(),
             rest: rows,
-        }
+        },
     }
 }
 
-pub fn fill(functions: &mut [Function], d: &[u8], t: &[u32], symbols: &[u32], rows: Rows)
-    requires { ReadableRows d.now t.now rows }
-    ensures { functions.new ≡ rows_made d.now t.now symbols.now 0 rows (length functions.old) }
+// The rows of the functions of `symbols`, and rows of zeros behind them.
+pub fn fill_functions(functions: &mut [Function], object: Object, symbols: &[u32], rows: Rows)
+    ensures { functions.new ≡ of rows_made object.entry.records symbols.now 0 rows (length functions.old) }
 {
     let mut at = rows;
     for i in 0..functions.len() {
-        let m = next_row(d, t, symbols, i, at);
+        let m = function_row(object, symbols, i, at);
         functions[i] = m.row;
         at = m.rest;
     }
 }
 
-// What a search has left: the rows from `low` up to `high`; or none, and the row that it found.
-#[derive(Clone, Copy)]
-pub struct Search {
-    pub low: usize,
-    pub high: usize,
-    pub found: Option<usize>,
-}
-
 fn compare(f: Function, section: SectionIndex, address: u64) -> Ordering
     ensures { result ≡ ordering (row_key f) (section.0 ∷ address ∷ []) }
 {
-    if f.section.0 < section.0 {
-        return Ordering::Less;
-    }
-    if section.0 < f.section.0 {
-        return Ordering::Greater;
-    }
-    if f.address < address {
-        return Ordering::Less;
-    }
-    if address < f.address {
-        return Ordering::Greater;
-    }
-    Ordering::Equal
-}
-
-// The first `count` rows of n.
-fn begin(count: usize, n: usize) -> Search
-    ensures { result ≡ begun count n }
-{
-    Search {
-        low: 0,
-        high: count.min(n),
-        found: None,
-    }
-}
-
-fn middle(s: Search) -> usize
-    requires { s.low < s.high }
-    ensures { result ≡ middle_of s }
-{
-    s.low + (s.high - s.low) / 2
-}
-
-// What is left once the middle row was read.
-fn narrow(s: Search, f: Function, section: SectionIndex, address: u64) -> Search
-    requires { s.low < s.high }
-    ensures { result ≡ narrowed (section.0 ∷ address ∷ []) s f }
-{
-    let m = middle(s);
-    match compare(f, section, address) {
-        Ordering::Less => Search {
-            low: m + 1,
-            high: s.high,
-            found: None,
-        },
-        Ordering::Equal => Search {
-            low: m,
-            high: m,
-            found: Some(m),
-        },
-        Ordering::Greater => Search {
-            low: s.low,
-            high: m,
-            found: None,
-        },
-    }
+    f.section.0.cmp(&section.0).then(f.address.cmp(&address))
 }
 
 // The place of a function among the first `count` rows, by halves: they are ordered by section and address.
@@ -181,11 +112,16 @@ pub fn find(
 ) -> Option<usize>
     ensures { result ≡ found_in functions.now count (section.0 ∷ address ∷ []) }
 {
-    let mut s = begin(count, functions.len());
+    let mut low = 0;
+    let mut high = count.min(functions.len());
     // Each turn halves what is left, so no range counts the turns.
-    while s.low < s.high {
-        let m = middle(s);
-        s = narrow(s, functions[m], section, address);
+    while low < high {
+        let middle = low + (high - low) / 2;
+        match compare(functions[middle], section, address) {
+            Ordering::Less => low = middle + 1,
+            Ordering::Equal => return Some(middle),
+            Ordering::Greater => high = middle,
+        }
     }
-    s.found
+    None
 }

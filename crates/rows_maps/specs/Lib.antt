@@ -1,4 +1,3 @@
 -- What the contracts of `rows_maps` cite.
 pub mod Rows
 pub mod Maps
-pub mod Stores

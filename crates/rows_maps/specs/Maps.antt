@@ -3,8 +3,6 @@ use Rattle.std.specs.Prelude.{◌≡◌, List, ℕ, ◌+◌, ◌≤◌, length}
 use Rattle.model.specs.declared.BpfMapDef.{BpfMapDef}
 use Rattle.model.specs.declared.EbpfSectionKind.{EbpfSectionKind as Kind}
 use Rattle.object_view.specs.declared.View.{View}
-use Rattle.model.specs.declared.SectionRecord.{SectionRecord}
-use Rattle.model.specs.declared.SymbolRecord.{SymbolRecord}
 use Rattle.model.specs.Catalogue.{Map}
 use Rattle.model.specs.Contents.{legacy_map, record_of, words_of, data_map, data_words}
 use Rattle.model.specs.SectionKind.{kind_number, kind_of}
@@ -31,23 +29,23 @@ module _ (d t : List ℕ) (v : View) where
   abbrev pub RecordWithin : ℕ → Type 0
   RecordWithin j = (symbol_at d t v j).address + (symbol_at d t v j).size ≤ (section_at d t v (home_at d t v j)).bytes.length
 
-  pub data_is : (n i : ℕ) (s : SectionRecord) → map_source_of v.sections n ≡ MapSource.Section i → s ≡ section_at d t v i
-      → row_by s.name.length s.index.0 (kind_number (kind_of (section_from d t v s))) 0 (length (own_bytes d t v n)) (data_words (kind_of (section_from d t v s)) s.size)
-      ≡ map_row_of (map_at d t v n)
+  -- the row of a section's map, by the record
+  pub data_row_of : (n i : ℕ) → map_source_of v.sections n ≡ MapSource.Section i
+      → map_row_of (map_at d t v n)
+      ≡ (let s = section_at d t v i in
+      let k = kind_of (section_from d t v s) in
+      row_by s.name.length s.index.0 (kind_number k) 0 (length (own_bytes d t v n)) (data_words k s.size))
   unfolding map_row_of data_map section_from
-  data_is n i s m e = rw (m, e, length-bytes)
+  data_row_of n i m = rw (m, length-bytes)
 
-  module _ (j : ℕ) (y : SymbolRecord) (s : SectionRecord) (ey : y ≡ symbol_at d t v j) (es : s ≡ section_at d t v (home_at d t v j)) where
-    -- what was read lies in the data too
-    pub within_by : RecordWithin j → y.address + y.size ≤ s.bytes.length
-    within_by w = rw (es, ey) w
-
-    pub legacy-is : RecordWithin j
-        → row_by y.name.length s.index.0 (kind_number Kind.Maps) y.index.0 0 (words_of (bytes_at d (gap_of v) (v.at.bytes + s.bytes.at + y.address) y.size))
-        ≡ map_row_of (legacy_at j)
-    unfolding map_row_of legacy_map record_of section_from symbol_from
-    legacy-is w =
-        let b : SymbolRecord = symbol_at d t v j in
-        let x : SectionRecord = section_at d t v (home_at d t v j) in
-        let u : b.address + b.size ≤ x.bytes.length = w in
-        rw (es, ey, length-bytes, part_bytes d (gap_of v) (v.at.bytes + x.bytes.at) x.bytes.length b.address b.size u)
+  -- the row of a symbol's map, by its record and that of its section
+  pub legacy_row_of : (j : ℕ) → RecordWithin j
+      → map_row_of (legacy_at j)
+      ≡ (let y = symbol_at d t v j in
+      let s = section_at d t v (home_at d t v j) in
+      row_by y.name.length s.index.0 (kind_number Kind.Maps) y.index.0 0 (words_of (bytes_at d (gap_of v) (v.at.bytes + s.bytes.at + y.address) y.size)))
+  unfolding map_row_of legacy_map record_of section_from symbol_from
+  legacy_row_of j w =
+      let y = symbol_at d t v j in
+      let s = section_at d t v (home_at d t v j) in
+      rw (length-bytes, part_bytes d (gap_of v) (v.at.bytes + s.bytes.at) s.bytes.length y.address y.size w)

@@ -48,10 +48,6 @@ row_front place own r = place ∷ r.length ∷ r.section ∷ r.kind ∷ r.symbol
 abbrev pub numbers : ℕ → ℕ → Row → List ℕ
 numbers place own r = row_front place own r ++ (seven_words r.def ++ replicate 13 0)
 
-row-numbers : (a b : ℕ) (m : Map) → numbers a b (map_row_of m) ≡ map_row a b m
-unfolding map_row_of map_row
-row-numbers a b m = refl
-
 row-length : (a b : ℕ) (m : Map) → length (map_row a b m) ≡ 27
 unfolding map_row
 row-length a b m = refl
@@ -68,30 +64,23 @@ module _ (d t : List ℕ) (v : View) where
   own_bytes_in n = map_own (map_at d t v n)
 
   -- the row of the next number
-  module _ (order : List ℕ) (k : ℕ) (r : Row) (read : r ≡ map_row_of (map_at d t v (get_or order k 0))) where
+  module _ (ns : List ℕ) (k : ℕ) (r : Row) (read : r ≡ map_row_of (map_at d t v (get_or ns k 0))) (some : k < length ns) where
     -- where the name and the own bytes behind its lie
-    pub place-next : (at place : ℕ) → place ≡ at + length (each map_name_in (take k order)) → k < length order
-        → place + r.length ≡ at + length (each map_name_in (take (k + 1) order))
+    pub place-next : (at place : ℕ) → place ≡ at + length (each map_name_in (take k ns)) → place + r.length ≡ at + length (each map_name_in (take (k + 1) ns))
     unfolding map_row_of
-    place-next at place e l = let g : r.length ≡ length (map_name_in (get_or order k 0)) = rw read in omega (arith, each-longer map_name_in order 0 k l)
+    place-next at place e = let g : r.length ≡ length (map_name_in (get_or ns k 0)) = rw read in omega (arith, each-longer map_name_in ns 0 k some)
 
-    pub own-next : (own place : ℕ) → place ≡ own + length (each own_bytes_in (take k order)) → k < length order
-        → place + r.own ≡ own + length (each own_bytes_in (take (k + 1) order))
+    pub own-next : (own place : ℕ) → place ≡ own + length (each own_bytes_in (take k ns)) → place + r.own ≡ own + length (each own_bytes_in (take (k + 1) ns))
     unfolding map_row_of
-    own-next own place e l = let g : r.own ≡ length (own_bytes_in (get_or order k 0)) = rw read in omega (arith, each-longer own_bytes_in order 0 k l)
+    own-next own place e = let g : r.own ≡ length (own_bytes_in (get_or ns k 0)) = rw read in omega (arith, each-longer own_bytes_in ns 0 k some)
 
-    -- one row more, in a table whose front are those of k maps
-    pub rows_more : (at own a b : ℕ) (out₀ out : List ℕ) → a ≡ at + length (each map_name_in (take k order)) → b ≡ own + length (each own_bytes_in (take k order))
-        → k < length order → k * 27 + 27 ≤ length out₀ → out ≡ map_rows at own (take k order) ++ drop (k * 27) out₀
-        → sets out (k * 27) (numbers a b r) ≡ map_rows at own (take (k + 1) order) ++ drop ((k + 1) * 27) out₀
-    rows_more at own a b out₀ out ea eb l room q =
-        let row : List ℕ = row_at map_name map_own map_row (map_at d t v) order at own k in
-        let e : numbers a b r ≡ row =
-        ap (numbers a b) read
-        ∙ row-numbers a b (map_at d t v (get_or order k 0))
-        ∙ ap (λ (x : ℕ). map_row x b (map_at d t v (get_or order k 0))) ea
-        ∙ ap (λ (x : ℕ). map_row (at + length (each map_name_in (take k order))) x (map_at d t v (get_or order k 0))) eb
-        in
-        ap (sets out (k * 27)) e
-        ∙ ap (λ (x : List ℕ). sets x (k * 27) row) q
-        ∙ placed-sets map_name map_own map_row (map_at d t v) order at own 27 k out₀ row-length l room
+    module _ (at own a b : ℕ) (behind : a ≡ at + length (each map_name_in (take k ns))) (own-behind : b ≡ own + length (each own_bytes_in (take k ns))) where
+      row-at : numbers a b r ≡ row_at map_name map_own map_row (map_at d t v) ns at own k
+      unfolding map_row_of map_row
+      row-at = rw (read, behind, own-behind)
+
+      -- one row more, in a table whose front are those of k maps
+      pub rows_more : (out₀ out : List ℕ) → k * 27 + 27 ≤ length out₀ → out ≡ map_rows at own (take k ns) ++ drop (k * 27) out₀
+          → sets out (k * 27) (numbers a b r) ≡ map_rows at own (take (k + 1) ns) ++ drop ((k + 1) * 27) out₀
+      rows_more out₀ out room q =
+          ap (sets out (k * 27)) row-at ∙ rw q (placed-sets map_name map_own map_row (map_at d t v) ns at own 27 k out₀ row-length some room)

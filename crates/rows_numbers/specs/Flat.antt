@@ -12,6 +12,7 @@ use Rattle.model.specs.Bytes.{each}
 use Rattle.model.specs.FunctionNumbers.{row_numbers, flat_rows}
 use Rattle.model.specs.Lent.{filled}
 use Rattle.catalogue_laws.specs.Numbers.{each_append}
+use Rattle.object_view.specs.declared.View.{View}
 use Rattle.rows_functions.specs.declared.Made.{Made}
 use Rattle.rows_functions.specs.declared.Rows.{Rows}
 use Rattle.rows_functions.specs.Rows.{rows_made}
@@ -28,19 +29,19 @@ flat-last fs f = each_append row_numbers fs (f ∷ [])
 
 -- ---- a loop that stores the rows from the first on
 
-module _ (d t order : List ℕ) (made : Rows) where
+module _ (d t : List ℕ) (v : View) (order : List ℕ) (made : Rows) where
   abbrev numbers_at : ℕ → List ℕ
-  numbers_at i = row_numbers (made_at d t order made i).row
+  numbers_at i = row_numbers (made_at d t v order made i).row
 
-  rows_all : (k : ℕ) → rows numbers_at k ≡ flat_rows (rows_made d t order 0 made k)
+  rows_all : (k : ℕ) → rows numbers_at k ≡ flat_rows (rows_made d t v order 0 made k)
   unfolding rows_made flat_rows each
   rows_all zero = rows_none numbers_at
   rows_all (suc k) =
       rows-suc numbers_at k
       ∙ ap (λ (l : List ℕ). l ++ numbers_at k) (rows_all k)
-      ∙ sym (flat-last (rows_made d t order 0 made k) (made_at d t order made k).row)
-      ∙ ap flat_rows (sym (rows_next d t order made k))
-      ∙ ap (λ (n : ℕ). flat_rows (rows_made d t order 0 made n)) (add-one k)
+      ∙ sym (flat-last (rows_made d t v order 0 made k) (made_at d t v order made k).row)
+      ∙ ap flat_rows (sym (rows_next d t v order made k))
+      ∙ ap (λ (n : ℕ). flat_rows (rows_made d t v order 0 made n)) (add-one k)
 
   module _ (ns : List ℕ) where
     -- the numbers with the first k rows stored
@@ -52,14 +53,14 @@ module _ (d t order : List ℕ) (made : Rows) where
     stored-none = rw (rows_none numbers_at)
 
     -- row m stored behind them, in xs
-    pub stored_next : (k : ℕ) (xs : List ℕ) (m : Made) → m ≡ made_at d t order made k → xs ≡ numbers_stored k → k * 7 + 7 ≤ length ns
+    pub stored_next : (k : ℕ) (xs : List ℕ) (m : Made) → m ≡ made_at d t v order made k → xs ≡ numbers_stored k → k * 7 + 7 ≤ length ns
         → sets xs (k * 7) (row_numbers m.row) ≡ numbers_stored (k + 1)
     unfolding numbers_stored
     stored_next k xs m e f h = rw (e, f) (rows-sets numbers_at 7 k ns (λ i. refl) h)
 
     -- all rows are stored in xs, and what stands behind is lent as a part and comes back as zeros
     pub stored-all : (k : ℕ) (xs ys : List ℕ) → k * 7 ≤ length ns → xs ≡ numbers_stored k → ys ≡ replicate (length (take (length xs - k * 7) (drop (k * 7) xs))) 0
-        → take (k * 7) xs ++ (ys ++ drop (length xs - k * 7) (drop (k * 7) xs)) ≡ filled 0 (length ns) (flat_rows (rows_made d t order 0 made k))
+        → take (k * 7) xs ++ (ys ++ drop (length xs - k * 7) (drop (k * 7) xs)) ≡ filled 0 (length ns) (flat_rows (rows_made d t v order 0 made k))
     unfolding numbers_stored
     stored-all k xs ys h e q =
         let l : length (rows numbers_at k) ≡ k * 7 = length-rows numbers_at 7 k (λ i. refl) in

@@ -5,10 +5,12 @@ ghost use Rattle.std.specs.Prelude.{◌≡◌, ◌+◌, ◌*◌, ◌≤◌, leng
 ghost use Rattle.std.proofs.lemmas.List.Edits.{sets};
 ghost use Rattle.model.specs.FunctionNumbers.{row_numbers, flat_rows, rows_in};
 ghost use Rattle.model.specs.Lent.{filled};
-ghost use Rattle.rows_functions.specs.Rows.{ReadableRows, rows_made};
+ghost use Rattle.records.specs.Of.{of};
+ghost use Rattle.rows_functions.specs.Rows.{rows_made};
 
 use model::Function;
-use rows_functions::{Rows, next_row};
+use records::Object;
+use rows_functions::{Rows, function_row};
 use rows_sections::put_row;
 
 // Row i, in a table of rows.
@@ -29,18 +31,16 @@ fn store_row(numbers: &mut [u64], i: usize, f: Function)
 }
 
 // As many rows as the numbers have room for, and zeros behind.
-pub fn fill_rows(numbers: &mut [u64], d: &[u8], t: &[u32], symbols: &[u32], rows: Rows)
-    requires { ReadableRows d.now t.now rows }
+pub fn fill_numbers(numbers: &mut [u64], object: Object, symbols: &[u32], rows: Rows)
     ensures { numbers.new
         ≡ filled 0 (length numbers.old)
-        (flat_rows (rows_made d.now t.now symbols.now 0 rows (rows_in (length numbers.old)))) }
+        (flat_rows (of rows_made object.entry.records symbols.now 0 rows (rows_in (length numbers.old)))) }
 {
     let n = numbers.len() / 7;
     let mut at = rows;
     for i in 0..n {
-        let m = next_row(d, t, symbols, i, at);
-        let row = m.row;
-        store_row(numbers, i, row);
+        let m = function_row(object, symbols, i, at);
+        store_row(numbers, i, m.row);
         at = m.rest;
     }
     numbers[n * 7..].fill(0);

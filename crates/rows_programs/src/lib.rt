@@ -1,14 +1,13 @@
 // The rows of the program table: where a program's name lies, its length, the variant with its two values, the section's index and the address.
 #![tactic(auto)]
 
-ghost use Rattle.std.specs.Prelude.{◌≡◌, ◌++◌, ◌+◌, ◌*◌, ◌^◌, ◌<◌, ◌≤◌, length, take, drop};
+ghost use Rattle.std.specs.Prelude.{◌≡◌, ◌++◌, ◌+◌, ◌*◌, ◌^◌, ◌<◌, ◌≤◌, length, drop};
 ghost use Rattle.catalogue_numbers.specs.Numbers.{program_by_number};
-ghost use Rattle.records.specs.Readable.{Readable};
 ghost use Rattle.rows_programs.specs.Rows.{program_row_of, program_rows};
+ghost use Rattle.records.specs.Of.{of};
 
-use object_view::View;
 use program_section::variant_numbers;
-use records::name;
+use records::Object;
 use rows_sections::put_row;
 use symbol_section::member_at;
 
@@ -24,14 +23,14 @@ struct Row {
 }
 
 // The row of the program of symbol j.
-fn program_row(d: &[u8], t: &[u32], v: View, j: u32) -> Row
-    requires { Readable d.now t.now v }
-    ensures { (result ≡ program_row_of (program_by_number d.now t.now v j)) × (result.length < 2 ^ 32) }
+#[tactic(auto, using(crate::specs::Rows::row_of))]
+fn program_row(object: Object, j: u32) -> Row
+    ensures { (result ≡ program_row_of (of program_by_number object.entry.records j)) × (result.length < 2 ^ 32) }
 {
-    let m = member_at(d, t, v, j);
+    let m = member_at(object, j);
     let y = m.symbol;
     let s = m.section;
-    let variant = variant_numbers(name(d, v, s.name));
+    let variant = variant_numbers(object.records.name(s.name));
     Row {
         length: y.name.length as usize,
         number: variant.number,
@@ -42,22 +41,15 @@ fn program_row(d: &[u8], t: &[u32], v: View, j: u32) -> Row
     }
 }
 
-// The rows of the programs of the first n symbols of `numbers`, whose names lie one after the other from `at` on.
-pub fn put_program_rows(
-    d: &[u8],
-    t: &[u32],
-    v: View,
-    numbers: &[u32],
-    n: usize,
-    at: usize,
-    out: &mut [u64],
-)
-    requires { Readable d.now t.now v × (n ≤ length numbers.now) × (n < 2 ^ 29) × (at < 2 ^ 62) × (n * 7 ≤ length out.old) }
-    ensures { out.new ≡ program_rows d.now t.now v at (take n numbers.now) ++ drop (n * 7) out.old }
+// The rows of the programs of the symbols of `numbers`, whose names lie one after the other from `at` on.
+#[tactic(auto, unfolding(model::specs::Bytes::each, model::specs::Lent::placed))]
+pub fn put_program_rows(object: Object, numbers: &[u32], at: usize, out: &mut [u64])
+    requires { (length numbers.now < 2 ^ 29) × (at < 2 ^ 62) × (length numbers.now * 7 ≤ length out.old) }
+    ensures { out.new ≡ of program_rows object.entry.records at numbers.now ++ drop (length numbers.now * 7) out.old }
 {
     let mut place = at;
-    for k in 0..n {
-        let r = program_row(d, t, v, numbers[k]);
+    for (k, j) in numbers.iter().enumerate() {
+        let r = program_row(object, *j);
         let row = [
             place as u64,
             r.length as u64,

@@ -32,27 +32,20 @@ module _ (d t : List ℕ) (v : View) where
   unfolding section_from
   name-length i = length-bytes d (gap_of v) (v.at.names + (section_at d t v i).name.at) (section_at d t v i).name.length
 
-  -- the next row, by its record
-  row_is : (order : List ℕ) (at k place : ℕ) (s : SectionRecord) → s ≡ section_at d t v (get_or order k 0) → place ≡ at + length (each section_name_in (take k order))
-      → place ∷ s.name.length ∷ s.index.0 ∷ s.size ∷ [] ≡ row_at section_name nothing section_row entry_of order at 0 k
-  unfolding section_row section_from
-  row_is order at k place s e f = rw (f, name-length (get_or order k 0), e)
+  -- the row of the next number, by its record
+  module _ (js : List ℕ) (at k place : ℕ) (s : SectionRecord) (read : s ≡ section_at d t v (get_or js k 0)) (behind : place ≡ at + length (each section_name_in (take k js))) (some : k < length js) where
+    row_is : place ∷ s.name.length ∷ s.index.0 ∷ s.size ∷ [] ≡ row_at section_name nothing section_row entry_of js at 0 k
+    unfolding section_row section_from
+    row_is = rw (behind, name-length (get_or js k 0), read)
 
-  -- where the name behind it lies
-  pub place-next : (order : List ℕ) (at k place : ℕ) (s : SectionRecord) → s ≡ section_at d t v (get_or order k 0) → place ≡ at + length (each section_name_in (take k order))
-      → k < length order → place + s.name.length ≡ at + length (each section_name_in (take (k + 1) order))
-  place-next order at k place s e f l =
-      let g : length (section_name_in (get_or order k 0)) ≡ s.name.length = name-length (get_or order k 0) ∙ rw e in
-      omega (arith, each-longer section_name_in order 0 k l)
+    -- where the name behind it lies
+    pub place-next : place + s.name.length ≡ at + length (each section_name_in (take (k + 1) js))
+    place-next =
+        let e : length (section_name_in (get_or js k 0)) ≡ s.name.length = name-length (get_or js k 0) ∙ rw read in
+        omega (arith, each-longer section_name_in js 0 k some)
 
-  -- one row more, in a table whose front are those of k sections
-  pub rows_more : (order : List ℕ) (at k place len index : ℕ) (s : SectionRecord) (out₀ out : List ℕ)
-      → s ≡ section_at d t v (get_or order k 0) → place ≡ at + length (each section_name_in (take k order)) → len ≡ s.name.length → index ≡ s.index.0
-      → k < length order → k * 4 + 4 ≤ length out₀ → out ≡ section_rows at (take k order) ++ drop (k * 4) out₀
-      → sets out (k * 4) (place ∷ len ∷ index ∷ s.size ∷ []) ≡ section_rows at (take (k + 1) order) ++ drop ((k + 1) * 4) out₀
-  rows_more order at k place len index s out₀ out e f g i l room q =
-      let row : List ℕ = row_at section_name nothing section_row entry_of order at 0 k in
-      let r : place ∷ len ∷ index ∷ s.size ∷ [] ≡ row = rw (g, i) (row_is order at k place s e f) in
-      ap (sets out (k * 4)) r
-      ∙ ap (λ (x : List ℕ). sets x (k * 4) row) q
-      ∙ placed-sets section_name nothing section_row entry_of order at 0 4 k out₀ row-length l room
+    -- one row more, in a table whose front are those of k sections
+    pub rows_more : (out₀ out : List ℕ) → k * 4 + 4 ≤ length out₀ → out ≡ section_rows at (take k js) ++ drop (k * 4) out₀
+        → sets out (k * 4) (place ∷ s.name.length ∷ s.index.0 ∷ s.size ∷ []) ≡ section_rows at (take (k + 1) js) ++ drop ((k + 1) * 4) out₀
+    rows_more out₀ out room q =
+        ap (sets out (k * 4)) row_is ∙ rw q (placed-sets section_name nothing section_row entry_of js at 0 4 k out₀ row-length some room)

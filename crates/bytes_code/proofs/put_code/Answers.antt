@@ -1,44 +1,50 @@
 -- `bytes_code::put_code` meets its contract: the code is what lies in the data of its section.
-use mathlib.Core.Path.{◌∙◌}
-use Prim.Native.Nat.{ℕ, ◌<◌}
-use native.Mathlib.Omega.{arith}
-use Rattle.stream.specs.Stream.{byte_at}
+use Rattle.std.proofs.Common.{◌≡◌, length, take, arith, sym, ◌∙◌, length-take-le}
 use Rattle.records.specs.View.{gap_of}
 use Rattle.bytes_code.specs.Code.{CodeFound, found}
-use borrow.Author.Rules.{rules}
 use Rattle.bytes_code.proofs.put_code.Goals as goal
-use Rattle.bytes_code.proofs.put_code.Goals.{After-code_offset-start}
+use Rattle.bytes_code.proofs.put_code.Goals.{After-code_offset}
 
 -- the code in hand
-code_of : (c : After-code_offset-start) →
-    let a = c.args in
+code_of : (c : After-code_offset) →
+    let r = c.args.object.records in
     let m = c.member_at-m.result in
-    CodeFound a.d.now a.t.now a.v a.j m.section c.code_offset-start.result m.symbol
-unfolding byte_at
+    CodeFound r.bytes.now r.index.now r.view c.args.j m.section c.code_offset.result m.symbol
 code_of c =
+    let r = c.args.object.records in
     let m = c.member_at-m in
-    let a = c.args in
-    let small : (k : ℕ) → byte_at a.d.now (gap_of a.v) k < 256 = λ k. search rules in
-    found a.d.now a.t.now a.v a.j c.requires.1 c.requires.0 small m.result.symbol m.result.section c.code_offset-start.result m.ensures.0 m.ensures.1
-    c.code_offset-start.ensures
+    let small = c.bytes_fit.ensures (gap_of r.view) in
+    found r.bytes.now r.index.now r.view c.args.j c.requires.0 c.args.object.readable small m.result.symbol m.result.section c.code_offset.result m.ensures.0 m.ensures.1
+    c.code_offset.ensures
 
-pub overflow_add-data_place : goal.overflow_add-data_place
-overflow_add-data_place c = omega (arith, code_of (goal.at.overflow_add-data_place c).After-code_offset-start)
+room : (c : After-code_offset) →
+    let n = c.member_at-m.result.symbol.size in length (take n c.args.out.now) ≡ n
+room c =
+    length-take-le c.member_at-m.result.symbol.size c.args.out.now (omega (arith, code_of c, c.requires.1))
 
-pub copy_stream-requires : goal.copy_stream-requires
-copy_stream-requires c =
-    let f = code_of (goal.at.copy_stream-requires c).After-code_offset-start in
-    let p = c.data_place.ensures.0 in
-    let room = c.requires.2 in
-    (omega arith, omega (arith, f), rw (c.gap.ensures.0, p) f.placed, omega (arith, f, room))
+pub overflow_add-start : goal.overflow_add-start
+overflow_add-start c = omega (arith, code_of (goal.at.overflow_add-start c).After-code_offset)
 
-pub overflow_add-result : goal.overflow_add-result
-overflow_add-result c =
-    omega (arith, code_of (goal.at.overflow_add-result c).After-code_offset-start)
+pub span-requires : goal.span-requires
+span-requires c = omega (arith, code_of (goal.at.span-requires c).After-code_offset)
+
+pub slice_bounds-copy_span-end : goal.slice_bounds-copy_span-end
+slice_bounds-copy_span-end c =
+    omega (arith, code_of (goal.at.slice_bounds-copy_span-end c).After-code_offset, c.requires.1)
+
+pub slice_bounds-copy_span-end-2 : goal.slice_bounds-copy_span-end-2
+slice_bounds-copy_span-end-2 c = sym (room (goal.at.slice_bounds-copy_span-end-2 c).After-code_offset)
+
+pub copy_span-requires : goal.copy_span-requires
+copy_span-requires c =
+    let f = code_of (goal.at.copy_span-requires c).After-code_offset in
+    let s = c.span.ensures in (
+      rw (s.stream, s.at, s.len, c.data-data.ensures.lent, c.data-data.ensures.gap, c.data-data.ensures.at) f.placed,
+      room (goal.at.copy_span-requires c).After-code_offset ∙ sym s.len,
+    )
 
 pub returns : goal.returns
 returns c =
-    let f = code_of (goal.at.returns c).After-code_offset-start in
-    let g = c.gap in
-    let p = c.data_place in
-    (omega (arith, f), c.copy_stream.ensures ∙ rw (g.ensures.0, p.ensures.0, f.code))
+    let f = code_of (goal.at.returns c).After-code_offset in
+    let s = c.span.ensures in
+    (sym f.long, rw (c.copy_span.ensures, s.stream, s.at, s.len, c.data-data.ensures.lent, c.data-data.ensures.gap, c.data-data.ensures.at, f.code))

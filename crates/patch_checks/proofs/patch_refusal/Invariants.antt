@@ -1,8 +1,11 @@
 use mathlib.Core.Path.{◌≡◌}
+use Rattle.records.specs.Of.{of}
 use Rattle.object.specs.View.{object_in}
 use Rattle.patch_checks.specs.Checks.{maps_of_numbers, rest_at}
 use Rattle.patch_checks.proofs.patch_refusal.Given as goal
 
 abbrev pub invariant-loop-e : goal.invariant-loop-e
 invariant-loop-e l =
-    rest_at (object_in l.d l.t l.v) (maps_of_numbers l.d l.t l.v l.maps l.n) l.entries l.patches 0 ≡ rest_at (object_in l.d l.t l.v) (maps_of_numbers l.d l.t l.v l.maps l.n) l.entries l.patches l.e
+    let r = l.object.records in
+    let rest = rest_at (of object_in r) (of maps_of_numbers r l.maps) l.list.entries.now l.list.bytes.now in
+    rest 0 ≡ rest l.e

@@ -1,21 +1,20 @@
 -- `patch_data::patch_symbol` meets its contract: the row of the symbol's map says where its bytes begin.
-use mathlib.Core.Path.{◌∙◌}
-use Prim.Native.Nat.{◌+◌, ◌-◌, ◌*◌, ◌≤◌}
+use mathlib.Core.Path.{◌≡◌, sym, ap, ◌∙◌}
+use mathlib.Core.List.{List, ◌++◌}
+use Prim.Native.Nat.{ℕ, ◌+◌, ◌-◌, ◌*◌}
 use native.Mathlib.Omega.{arith}
-use lib.ListN.{length, get_or}
+use lib.ListN.{length, get_or, take, drop}
+use Rattle.records.specs.Of.{of}
+use Rattle.patch_maps.specs.Found.{map_place_of, some-kept}
+use Rattle.patch_data.specs.Region.{stored}
 use Rattle.patch_data.proofs.patch_symbol.Goals as goal
 
-pub overflow_sub-at : goal.overflow_sub-at
-overflow_sub-at c = rw c.place_of-place.ensures c.requires.3.start
-
-pub overflow_add-at-2 : goal.overflow_add-at-2
-overflow_add-at-2 c =
-    let a = c.args in
-    let r : get_or a.rows.now (27 * (c.place_of-place.result - 1) + 5) 0 - a.own + a.y.address + a.len ≤ length a.bytes.now = rw c.place_of-place.ensures c.requires.3.room in
-    omega arith
-
-pub write-requires : goal.write-requires
-write-requires c = (rw c.place_of-place.ensures c.requires.3.room, c.requires.2)
-
 pub returns : goal.returns
-returns c = c.write.ensures ∙ rw c.place_of-place.ensures
+returns c =
+    let a = c.args in
+    let b = a.bytes.now in
+    let m = some-kept _ _ (sym c.unwrap-place.ensures ∙ c.place_of.ensures) in
+    let e : of map_place_of a.object.records a.by.now a.y - 1 ≡ c.unwrap-place.result = omega arith in
+    let at = get_or a.rows.now (27 * c.unwrap-place.result + 5) 0 - a.own + a.y.address in
+    ap (λ (ys : List ℕ). take at b ++ (ys ++ drop (at + length a.source.now - at) (drop at b))) c.copy_from_slice.ensures.after
+    ∙ rw e (stored b a.source.now at (rw e at c.requires.room))

@@ -7,12 +7,12 @@ use Rattle.patch_maps.proofs.map_home.Goals as goal
 pub returns-in-Section : goal.returns-in-Section
 unfolding map_home
 returns-in-Section c =
-    let a = c.args in
-    ap (source_home a.d.now a.t.now a.v) (sym c.in-Section.is ∙ c.map_source.ensures)
+    let r = c.args.object.records in
+    ap (source_home r.bytes.now r.index.now r.view) (sym c.in-Section.is ∙ c.map_source.ensures)
 
 pub returns-in-Symbol : goal.returns-in-Symbol
 unfolding map_home
 returns-in-Symbol c =
-    let a = c.args in
-    c.section_of_symbol.ensures ∙ ap (home_of a.d.now a.t.now a.v) c.symbol.ensures ∙ sym (home-by-record a.d.now a.t.now a.v _)
-    ∙ ap (source_home a.d.now a.t.now a.v) (sym c.in-Symbol.is ∙ c.map_source.ensures)
+    let r = c.args.object.records in
+    c.section_of_symbol.ensures ∙ ap (home_of r.bytes.now r.index.now r.view) c.symbol.ensures ∙ sym (home-by-record r.bytes.now r.index.now r.view _)
+    ∙ ap (source_home r.bytes.now r.index.now r.view) (sym c.in-Symbol.is ∙ c.map_source.ensures)

@@ -11,10 +11,10 @@ pub returns : goal.returns
 returns c =
     let a = c.args in
     let s = a.symbols.now in
-    let p : ℕ → Bool = λ j. before (length_and_name a.d.now a.t.now a.v j) (length_first a.word.now) in
+    let p : ℕ → Bool = λ j. before (length_and_name a.records.bytes.now a.records.index.now a.records.view j) (length_first a.word.now) in
     let parted : IsPartitionedBy p s = λ i j x m l q.
     ap p (get_or_default_zero s i x (omega arith))
-    ∙ names-below a.d.now a.t.now a.v a.word.now s c.requires.0 c.requires.1 j l (sym (ap p (get_or_default_zero s j x l)) ∙ q) i (omega arith)
+    ∙ names-below a.records.bytes.now a.records.index.now a.records.view a.word.now s c.requires.0 c.requires.1 j l (sym (ap p (get_or_default_zero s j x l)) ∙ q) i (omega arith)
     in
     let point = IsPartitionPoint-from_clause p _ _ c.partition_point.ensures.partitioned parted (λ a r q k. search rules) in
     record { within = c.partition_point.ensures.bound; below = λ i l. point.0 i 0 (omega arith) l; above = λ i l m. point.1 i 0 l m }

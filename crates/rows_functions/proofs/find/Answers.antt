@@ -1,37 +1,42 @@
--- `rows_functions::find` meets its contract: each turn leaves the half that `narrowed` names, and one halving fewer is left.
-use Rattle.std.proofs.Common.{get_or, ◌≡◌, ℕ, ◌-◌, ◌<◌, min, List, [], ◌∷◌, length, ◌∙◌, sym, arith}
-use Rattle.model.specs.declared.Function.{Function}
-use Rattle.model.specs.Lent.{zero_row}
-use Rattle.rows_functions.specs.Search.{narrowed, middle_of, narrowed-high, narrowed-fewer, found-end, found-next, found_from}
+-- `rows_functions::find` meets its contract: each turn leaves the rows that the definition goes on with, by one turn fewer.
+use Rattle.std.proofs.Common.{[], ◌∷◌, ◌∙◌, sym, min, length, ◌-◌, arith}
+use Rattle.std.specs.declared.cmp.Ordering.{Ordering}
+use Rattle.rows_functions.specs.Search.{none-left, a-turn, found-by-turns}
 use Rattle.rows_functions.proofs.find.Goals as goal
 
-pub loop-s-init : goal.loop-s-init
-loop-s-init c =
-    let fs = c.args.functions.now in
-    let e = c.begin-s.ensures in
-    (min c.args.count (length fs), rw e (omega arith), rw e (omega arith), rw e (found_from fs c.args.count (c.args.section.0 ∷ c.args.address ∷ [])))
+pub loop-low-init : goal.loop-low-init
+loop-low-init c =
+    let e = c.min-high.ensures in
+    record { within = omega (arith, e); turns = min c.args.count (length c.args.functions.now); fewer = omega (arith, e); found = rw e (found-by-turns c.args.functions.now c.args.count (c.args.section.0 ∷ c.args.address ∷ [])) }
 
-pub loop-s-smaller : goal.loop-s-smaller
-loop-s-smaller c =
-    let k : List ℕ = c.args.section.0 ∷ c.args.address ∷ [] in
-    rw c.narrow-s.ensures (narrowed-fewer k c.loop-s.s _ c.loop-s-test.true)
+pub loop-low-preserved-in-Less : goal.loop-low-preserved-in-Less
+loop-low-preserved-in-Less c =
+    let i = c.loop-low.invariant in
+    let l = c.loop-low-test.true in
+    record {
+      within = i.within;
+      turns = i.turns - 1;
+      fewer = omega (arith, l, i.fewer);
+      found = a-turn c.args.functions.now (c.args.section.0 ∷ c.args.address ∷ []) i.turns c.loop-low.low c.loop-low.high Ordering.Less _ l i.fewer (sym c.in-Less.is ∙ c.compare.ensures) i.found;
+    }
 
-pub loop-s-preserved : goal.loop-s-preserved
-loop-s-preserved c =
-    let k : List ℕ = c.args.section.0 ∷ c.args.address ∷ [] in
-    let fs = c.args.functions.now in
-    let s = c.loop-s.s in
-    let l = c.loop-s-test.true in
-    let i = c.loop-s.invariant in
-    let f : Function = get_or fs (middle_of s) zero_row in
-    let h : c.narrow-s.result ≡ narrowed k s f = c.narrow-s.ensures ∙ rw c.middle-m.ensures in
-    let some : 0 < i.0 = omega (arith, l, i.2) in
-    let high = narrowed-high k s f l in
-    let fewer = narrowed-fewer k s f l in
-    (i.0 - 1, rw h (omega (arith, high, i.1)), rw h (omega (arith, fewer, i.2)), rw h (sym (found-next k fs i.0 s some l) ∙ i.3))
+pub loop-low-preserved : goal.loop-low-preserved
+loop-low-preserved c =
+    let i = c.loop-low.invariant in
+    let l = c.loop-low-test.true in
+    record {
+      within = omega (arith, i.within);
+      turns = i.turns - 1;
+      fewer = omega (arith, l, i.fewer);
+      found = a-turn c.args.functions.now (c.args.section.0 ∷ c.args.address ∷ []) i.turns c.loop-low.low c.loop-low.high Ordering.Greater _ l i.fewer (sym c.in-Greater.is ∙ c.compare.ensures) i.found;
+    }
+
+pub returns-in-Equal : goal.returns-in-Equal
+returns-in-Equal c =
+    let i = c.loop-low.invariant in
+    a-turn c.args.functions.now (c.args.section.0 ∷ c.args.address ∷ []) i.turns c.loop-low.low c.loop-low.high Ordering.Equal _ c.loop-low-test.true i.fewer (sym c.in-Equal.is ∙ c.compare.ensures) i.found
 
 pub returns : goal.returns
 returns c =
-    let k : List ℕ = c.args.section.0 ∷ c.args.address ∷ [] in
-    let i = c.loop-s.invariant in
-    sym (found-end k c.args.functions.now i.0 c.loop-s.s c.loop-s-test.false) ∙ i.3
+    let i = c.loop-low.invariant in
+    sym (none-left c.args.functions.now (c.args.section.0 ∷ c.args.address ∷ []) i.turns c.loop-low.low c.loop-low.high c.loop-low-test.false) ∙ i.found

@@ -1,13 +1,16 @@
 use Rattle.std.proofs.Common.{◌≡◌, ℕ, ◌-◌, ◌≤◌, [], ◌∷◌, length}
-use Rattle.model.specs.LookUp.{found_in}
-use Rattle.rows_functions.specs.Search.{found_by}
+use Rattle.model.specs.LookUp.{searched, found_in}
 use Rattle.rows_functions.proofs.find.Given as goal
 
--- no more than `steps` halvings are left
-abbrev pub invariant-loop-s : goal.invariant-loop-s
-invariant-loop-s l =
-    (steps : ℕ) × (l.s.high ≤ length l.functions) × (l.s.high - l.s.low ≤ steps)
-    × (found_by (l.section.0 ∷ l.address ∷ []) l.functions steps l.s ≡ found_in l.functions l.count (l.section.0 ∷ l.address ∷ []))
+-- no more than `turns` turns are left
+abbrev pub invariant-loop-low : goal.invariant-loop-low
+invariant-loop-low l =
+    record {
+      within : l.high ≤ length l.functions;
+      turns : ℕ;
+      fewer : l.high - l.low ≤ turns;
+      found : searched l.functions (l.section.0 ∷ l.address ∷ []) turns l.low l.high ≡ found_in l.functions l.count (l.section.0 ∷ l.address ∷ []);
+    }
 
-abbrev pub decreases-loop-s : goal.decreases-loop-s
-decreases-loop-s l = l.s.high - l.s.low
+abbrev pub decreases-loop-low : goal.decreases-loop-low
+decreases-loop-low l = l.high - l.low

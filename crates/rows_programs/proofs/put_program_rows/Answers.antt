@@ -1,33 +1,16 @@
 -- `rows_programs::put_program_rows` meets its contract: the rows passed stand in front, and `place` is where the next name lies.
-use mathlib.Core.Path.{◌≡◌, refl, sym, ◌∙◌}
-use Prim.Native.Nat.{ℕ, ◌<◌}
-use native.Mathlib.Nat.{add-zero}
-use native.Mathlib.Omega.{arith}
-use lib.ListN.{length}
-use Rattle.model.specs.Bytes.{each}
-use Rattle.model.specs.Lent.{placed}
+use Rattle.std.proofs.Common.{arith, ◌∙◌}
 use Rattle.rows_programs.specs.Rows.{place-next, rows_more}
 use Rattle.rows_programs.proofs.put_program_rows.Goals as goal
 
-pub loop-k-init : goal.loop-k-init
-unfolding each placed
-loop-k-init c = (refl, omega arith, sym (add-zero c.args.at), refl)
-
 pub loop-k-preserved : goal.loop-k-preserved
 loop-k-preserved c =
-    let a = c.args in
-    let r = c.program_row-r in
-    let k : ℕ = c.loop-k.k in
-    let m : k < length a.numbers.now = omega (arith, c.loop-k-test.true, c.requires) in (
-      c.put_row.auto.t ∙ c.loop-k.invariant.0,
-      omega (arith, c.loop-k.invariant.1, r.ensures.1),
-      place-next a.d.now a.t.now a.v a.numbers.now a.at k c.loop-k.place r.result r.ensures.0 c.loop-k.invariant.2 m,
-      c.put_row.ensures
-          ∙ rows_more a.d.now a.t.now a.v a.numbers.now a.at k c.loop-k.place r.result r.ensures.0 c.loop-k.invariant.2 a.out.now c.loop-k.out
-          m (omega (arith, c.loop-k-test.true, c.requires)) c.loop-k.invariant.3,
-    )
-
-pub returns : goal.returns
-returns c =
-    let e : c.loop-k.k ≡ c.args.n = omega arith in
-    c.loop-k.invariant.3 ∙ rw e
+    let r = c.args.object.records in
+    let row = c.program_row-r in
+    let k = c.loop-k in
+    record {
+      short = omega arith;
+      behind = place-next r.bytes.now r.index.now r.view c.args.numbers.now c.args.at k.k k.place row.result row.ensures.0 k.invariant.behind c.loop-k-test.true;
+      rows = c.put_row.ensures
+          ∙ rows_more r.bytes.now r.index.now r.view c.args.numbers.now c.args.at k.k k.place row.result row.ensures.0 k.invariant.behind c.loop-k-test.true c.args.out.now k.out (omega arith) k.invariant.rows;
+    }

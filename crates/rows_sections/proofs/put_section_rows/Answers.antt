@@ -1,36 +1,18 @@
 -- `rows_sections::put_section_rows` meets its contract: the rows passed stand in front, and `place` is where the next name lies.
-use mathlib.Core.Path.{◌≡◌, refl, sym, ◌∙◌}
-use Prim.Native.Nat.{ℕ, ◌<◌}
-use native.Mathlib.Nat.{add-zero}
-use native.Mathlib.Omega.{arith}
-use lib.ListN.{length}
-use Rattle.model.specs.Bytes.{each}
-use Rattle.model.specs.Lent.{placed}
+use Rattle.std.proofs.Common.{arith, ◌∙◌}
 use Rattle.rows_sections.specs.Rows.{place-next, rows_more}
 use Rattle.rows_sections.proofs.put_section_rows.Goals as goal
 
-pub loop-k-init : goal.loop-k-init
-unfolding each placed
-loop-k-init c =
-    let a = c.args in
-    (refl, omega arith, sym (add-zero a.at), refl)
-
 pub loop-k-preserved : goal.loop-k-preserved
 loop-k-preserved c =
-    let a = c.args in
+    let r = c.args.records in
     let s = c.section-s in
-    let len = c.from-len in
-    let k : ℕ = c.loop-k.k in
-    let m : k < length a.numbers.now = omega (arith, c.loop-k-test.true, c.requires) in (
-      c.put_row.auto.t ∙ c.loop-k.invariant.0,
-      omega (arith, c.loop-k.invariant.1, s.type_inv, len.ensures),
-      rw len.ensures (place-next a.d.now a.t.now a.v a.numbers.now a.at k c.loop-k.place s.result s.ensures c.loop-k.invariant.2 m),
-      c.put_row.ensures
-          ∙ rows_more a.d.now a.t.now a.v a.numbers.now a.at k c.loop-k.place len.result c.from.result s.result a.out.now c.loop-k.out
-          s.ensures c.loop-k.invariant.2 len.ensures c.from.ensures m (omega (arith, c.loop-k-test.true, c.requires)) c.loop-k.invariant.3,
-    )
-
-pub returns : goal.returns
-returns c =
-    let e : c.loop-k.k ≡ c.args.n = omega arith in
-    c.loop-k.invariant.3 ∙ rw e
+    let k = c.loop-k in
+    record {
+      short = omega arith;
+      behind = rw c.from-len.ensures
+          (place-next r.bytes.now r.index.now r.view c.args.numbers.now c.args.at k.k k.place s.result s.ensures k.invariant.behind c.loop-k-test.true);
+      rows = c.put_row.ensures
+          ∙ rw (c.from-len.ensures, c.from.ensures)
+          (rows_more r.bytes.now r.index.now r.view c.args.numbers.now c.args.at k.k k.place s.result s.ensures k.invariant.behind c.loop-k-test.true c.args.out.now k.out (omega arith) k.invariant.rows);
+    }
