@@ -5,47 +5,24 @@ ghost use Rattle.std.specs.Prelude.{◌≡◌, [], ◌∷◌};
 ghost use Rattle.model.specs.Lent.{lent, room_in, load_of};
 ghost use Rattle.model.specs.ElfRefusals.{load_elf_of};
 ghost use Rattle.model.specs.LookUp.{found_in, row_number};
-ghost use Rattle.model.specs.AnswerNumbers.{order_number, stated_bit, stated_version, accepted_answer, refused_answer, answer_of, call, call_of};
+ghost use Rattle.model.specs.AnswerNumbers.{accepted_answer, refused_answer, answer_of, call, call_of};
 
 use load::load;
 use load_elf::load_elf;
-use model::{Endianness, Function, LoadAnswer, Refusal, SectionIndex, Summary, SymbolIndex};
+use model::{Function, LoadAnswer, Refusal, SectionIndex, Summary, SymbolIndex};
 use rows_functions::find;
-
-fn order_number(o: Endianness) -> u32
-    ensures { result ≡ order_number o }
-{
-    match o {
-        Endianness::Little => 0,
-        Endianness::Big => 1,
-    }
-}
-
-fn stated_bit(v: Option<u32>) -> u32
-    ensures { result ≡ stated_bit v }
-{
-    u32::from(v.is_some())
-}
-
-fn stated_version(v: Option<u32>) -> u32
-    ensures { result ≡ stated_version v }
-{
-    v.unwrap_or(0)
-}
 
 fn accepted(s: Summary) -> LoadAnswer
     ensures { result ≡ accepted_answer s }
 {
-    let order = s.order;
-    let version = s.version;
     LoadAnswer {
         number: 0,
         section: SectionIndex(0),
         symbol: SymbolIndex(0),
-        order: order_number(order),
+        order: s.order as u32,
         entry: 0,
-        versioned: stated_bit(version),
-        version: stated_version(version),
+        versioned: u32::from(s.version.is_some()),
+        version: s.version.unwrap_or(0),
         license: s.license,
         sections: s.sections,
         programs: s.programs,
@@ -59,12 +36,10 @@ fn accepted(s: Summary) -> LoadAnswer
 fn refused(r: Refusal) -> LoadAnswer
     ensures { result ≡ refused_answer r }
 {
-    let section = r.section;
-    let symbol = r.symbol;
     LoadAnswer {
         number: r.number,
-        section,
-        symbol,
+        section: r.section,
+        symbol: r.symbol,
         order: 0,
         entry: r.entry,
         versioned: 0,
@@ -109,7 +84,7 @@ pub extern "C" fn buncoyew_load(
         (room_in
         (lent sections.old programs.old functions.old maps.old relocations.old bytes.old))) }
 {
-    let loaded = load(
+    *answer = answer_of(load(
         d,
         entries,
         patches,
@@ -120,8 +95,7 @@ pub extern "C" fn buncoyew_load(
         maps,
         relocations,
         bytes,
-    );
-    *answer = answer_of(loaded);
+    ));
 }
 
 // The same of an ELF file.
@@ -146,7 +120,7 @@ pub extern "C" fn buncoyew_load_elf(
         (room_in
         (lent sections.old programs.old functions.old maps.old relocations.old bytes.old))) }
 {
-    let loaded = load_elf(
+    *answer = answer_of(load_elf(
         d,
         entries,
         patches,
@@ -157,8 +131,7 @@ pub extern "C" fn buncoyew_load_elf(
         maps,
         relocations,
         bytes,
-    );
-    *answer = answer_of(loaded);
+    ));
 }
 
 fn row_number(f: Option<usize>) -> u64
@@ -166,7 +139,7 @@ fn row_number(f: Option<usize>) -> u64
 {
     match f {
         Some(i) => i as u64,
-        None => 18446744073709551615,
+        None => u64::MAX,
     }
 }
 

@@ -1,9 +1,7 @@
 -- How many bytes a number has of a part at most.
-use Rattle.std.specs.Prelude.{◌≡◌, refl, List, [], ◌∷◌, ℕ, zero, suc, ◌+◌, ◌*◌, ◌/◌, ◌<◌, ◌≤◌, length, get_or, take, drop}
-use Rattle.std.proofs.Common.{ap, ◌∙◌, arith, get_or-take, length-take-le}
+use Rattle.std.specs.Prelude.{◌≡◌, refl, List, ℕ, zero, suc, ◌+◌, ◌*◌, ◌/◌, ◌≤◌, length, drop}
+use Rattle.std.proofs.Common.{ap, ◌∙◌, arith}
 use Rattle.object_view.specs.declared.View.{View}
-use Rattle.catalogue_laws.specs.Groups.{all-at}
-use Rattle.catalogue_laws.specs.SectionsPrograms.{All}
 use Rattle.stream.specs.Stream.{length-bytes}
 use Rattle.records.specs.View.{gap_of, symbol_at}
 use Rattle.catalogue_numbers.specs.Fits.{FunctionFits}
@@ -20,22 +18,12 @@ use Rattle.bytes_layout.specs.declared.Part.{Part}
 use Rattle.bytes_layout.specs.Listed.{part_of, PartFits}
 use Rattle.bytes_maps.specs.Own.{own_bytes, own_of, nothing-bytes, zeros-length, zeros-small, data-length, data-fits}
 
--- what all of the front have, each of it has
-pub all-front : (P : ℕ → Type 0) (n : ℕ) (l : List ℕ) → n ≤ length l → All P (take n l) → (k : ℕ) → k < n → P (get_or l k 0)
-all-front P n l h a k g =
-    let e : get_or (take n l) k 0 ≡ get_or l k 0 = get_or-take n l k 0 g in
-    rw e at (all-at P (take n l) k a (rw (length-take-le n l h) g))
-
-pub all-weaken : (P Q : ℕ → Type 0) (l : List ℕ) → ((x : ℕ) → P x → Q x) → All P l → All Q l
-all-weaken P Q [] f a = tt
-all-weaken P Q (x ∷ l) f a = (f x a.0, all-weaken P Q l f a.1)
-
 length-instructions : (n : ℕ) (d : List ℕ) → length (instructions n d) ≡ n
 unfolding instructions
 length-instructions zero d = refl
 length-instructions (suc n) d = ap suc (length-instructions n (drop 8 d))
 
-module _ (d t : List ℕ) (v : View) (r : Readable d t v) where
+module _ {d t : List ℕ} {v : View} (r : Readable d t v) where
   name-short : (which : Piece) (j : ℕ) → Known which v j → length (piece_of which d t v j) ≤ 16777216
   name-short which j k =
       let l = length-bytes d (gap_of v) (v.at.names + (extent_of which d t v j).at) (extent_of which d t v j).length in

@@ -1,14 +1,14 @@
 -- The tables of numbers that a load holds, and the places of the parts of the catalogue's bytes.
-use Rattle.std.specs.Prelude.{◌≡◌, refl, ℕ, ◌+◌, ◌-◌, ◌^◌, ◌<◌, ◌≤◌, length, get_or, take, drop, None}
-use Rattle.std.proofs.Common.{sym, ap, ◌∙◌, zero-add, arith, length-append, length-drop}
-use mathlib.Core.List.{List, ◌++◌, append_assoc}
+use Rattle.std.specs.Prelude.{◌≡◌, List, [], ◌++◌, ℕ, ◌+◌, ◌^◌, ◌<◌, ◌≤◌, length, get_or, drop, None, Option}
+use Rattle.std.proofs.Common.{sym, ap, ◌∙◌, arith, append_assoc, length-append}
 use Rattle.object_view.specs.declared.View.{View}
+use Rattle.model.specs.declared.Extent.{Extent}
 use Rattle.model.specs.Bytes.{each}
 use Rattle.model.specs.Catalogue.{Catalogue}
 use Rattle.model.specs.Contents.{licence_of, version_of}
 use Rattle.model.specs.Lent.{section_name, program_name, function_name, function_code, map_name, map_own, bytes_of, sections_at, programs_at, functions_at, code_start, maps_at, own_start}
 use Rattle.model.specs.Refusals.{object_refusal}
-use Rattle.catalogue_laws.specs.Placed.{lay-more}
+use Rattle.catalogue_laws.specs.Groups.{all-at}
 use Rattle.catalogue_laws.specs.SectionsPrograms.{All}
 use Rattle.object.specs.View.{object_in}
 use Rattle.catalogue_numbers.specs.Numbers.{section_numbers, program_numbers, function_numbers, map_numbers}
@@ -18,34 +18,29 @@ use Rattle.records.specs.declared.MapSource.{MapSource}
 use Rattle.records.specs.Maps.{map_source_of}
 use Rattle.records.specs.Readable.{Readable}
 use Rattle.bytes_names.specs.declared.Piece.{Piece}
-use Rattle.bytes_names.specs.Inside.{KnownSource, Known}
+use Rattle.bytes_names.specs.Inside.{KnownSource}
 use Rattle.bytes_names.specs.Pieces.{piece_of}
 use Rattle.bytes_maps.specs.Own.{own_bytes}
-use Rattle.bytes_code.specs.Code.{code_at, AllFit}
+use Rattle.bytes_code.specs.Code.{code_at}
 use Rattle.parse_first.specs.LicenceVersion.{license_at}
-use Rattle.parse_sections.specs.declared.Counts.{Counts}
 use Rattle.bytes_layout.specs.declared.Part.{Part}
 use Rattle.bytes_layout.specs.declared.Places.{Places}
 use Rattle.bytes_layout.specs.Parts.{catalogue, licence-is, section-names, program-names, function-names, function-code, map-names, map-own}
-use Rattle.bytes_layout.specs.Bounds.{all-front, all-weaken}
 use Rattle.bytes_layout.specs.Listed.{PartFits, PartListed}
+use Rattle.bytes_layout.specs.Laid.{Laid}
 
--- the four tables, each at the front of its list; the licence and the version
-pub record Held (d t : List ℕ) (v : View) (n : Counts) (s p f m : List ℕ) : Type 0 where
-  pub sections : take n.sections s ≡ section_numbers d t v
-  pub programs : take n.programs p ≡ program_numbers d t v
-  pub functions : take n.functions f ≡ function_numbers d t v
-  pub maps : take n.maps m ≡ map_numbers d t v
-  pub sections-in : n.sections ≤ length s
-  pub programs-in : n.programs ≤ length p
-  pub functions-in : n.functions ≤ length f
-  pub maps-in : n.maps ≤ length m
-  pub few-sections : n.sections ≤ 69632
-  pub few-programs : n.programs ≤ 69632
-  pub few-functions : n.functions ≤ 65536
-  pub few-maps : n.maps ≤ 69632
-  pub license : n.license ≡ license_at d t v
-  pub version : n.version ≡ version_of (object_in d t v)
+-- the four tables, the licence and the version
+pub record Held (d t : List ℕ) (v : View) (s p f m : List ℕ) (l : Option Extent) (w : Option ℕ) : Type 0 where
+  pub sections : s ≡ section_numbers d t v
+  pub programs : p ≡ program_numbers d t v
+  pub functions : f ≡ function_numbers d t v
+  pub maps : m ≡ map_numbers d t v
+  pub few-sections : length s ≤ 69632
+  pub few-programs : length p ≤ 69632
+  pub few-functions : length f ≤ 65536
+  pub few-maps : length m ≤ 69632
+  pub license : l ≡ license_at d t v
+  pub version : w ≡ version_of (object_in d t v)
 
 -- where the parts begin, and where the last ends
 pub record At (c : Catalogue) (q : Places) : Type 0 where
@@ -78,168 +73,110 @@ parts-inside c =
     let e = bytes-end c in
     record { sections = omega arith; programs = omega arith; functions = omega arith; code = omega arith; maps = omega arith; own = sym e }
 
--- ---- parts laid one after the other at the front of a list
+-- ---- what the numbers of a table stand for is there
 
-pub record LaidInFront (t : List ℕ) (a : ℕ) (l out : List ℕ) : Type 0 where
-  pub reach : a ≡ length l
-  pub within : a ≤ length t
-  pub held : out ≡ l ++ drop a t
+module _ {d t : List ℕ} {v : View} (r : Readable d t v) (ok : object_refusal (object_in d t v) ≡ None) where
+  pub all-functions-fit : {f : List ℕ} → f ≡ function_numbers d t v → (k : ℕ) → k < length f → FunctionFits d t v (get_or f k 0)
+  all-functions-fit {f} e k h = all-at (FunctionFits d t v) f k (rw e (functions-fit d t v ok r)) h
 
-pub laid-length : {t : List ℕ} {a : ℕ} {l out : List ℕ} → LaidInFront t a l out → length out ≡ length t
-laid-length {t} {a} {l} {out} p =
-    let w = p.within in
-    let e = p.reach in
-    ap length p.held ∙ rw (length-append, length-drop) (omega arith)
+  pub all-maps-fit : {m : List ℕ} → m ≡ map_numbers d t v → (k : ℕ) → k < length m → MapFits d t v (get_or m k 0)
+  all-maps-fit {m} e k h = all-at (MapFits d t v) m k (rw e (maps-fit d t v ok r)) h
 
-pub laid-first : (l t out : List ℕ) (a : ℕ) → a ≡ length l → a ≤ length t → out ≡ l ++ drop a t → LaidInFront t a l out
-laid-first l t out a e h f = record { reach = e; within = h; held = f }
-
-pub laid-all : {t : List ℕ} {a : ℕ} {l out : List ℕ} → LaidInFront t a l out → (x : List ℕ) → l ≡ x → out ≡ x ++ drop (length x) t
-laid-all {t} {a} {l} {out} p x e = p.held ∙ ap (λ (n : ℕ). l ++ drop n t) p.reach ∙ ap (λ (y : List ℕ). y ++ drop (length y) t) e
-
-pub laid_more : {t : List ℕ} {a : ℕ} {l out : List ℕ} → LaidInFront t a l out → (x next : List ℕ) (b : ℕ) → b ≡ a + length x → b ≤ length t → next ≡ take a out ++ (x ++ drop b out)
-    → LaidInFront t b (l ++ x) next
-laid_more {t} {a} {l} {out} p x next b e room f =
-    let g : length x ≡ b - a = omega arith in
-    let q : a + (b - a) ≡ b = omega arith in
-    let h : a + (b - a) ≤ length t = omega arith in
-    let k : take a (l ++ drop a t) ++ (x ++ drop (a + (b - a)) (l ++ drop a t)) ≡ (l ++ x) ++ drop (a + (b - a)) t = lay-more 0 a (b - a) l x t (p.reach ∙ sym (zero-add (length l))) g h in
-    record {
-      reach = e ∙ ap (λ (n : ℕ). n + length x) p.reach ∙ sym (length-append l x);
-      within = room;
-      held = f ∙ ap (λ (o : List ℕ). take a o ++ (x ++ drop b o)) p.held ∙ (rw q at k);
-    }
-
-module _ (d t : List ℕ) (v : View) (r : Readable d t v) (ok : object_refusal (object_in d t v) ≡ None) (n : Counts) (s p f m : List ℕ) (held : Held d t v n s p f m) where
-  -- ---- what the numbers stand for is there
-
-  functions-fitting : All (FunctionFits d t v) (take n.functions f)
-  functions-fitting = rw held.functions (functions-fit d t v ok r)
-
-  pub all_fit : AllFit d t v f n.functions
-  all_fit = all-front (FunctionFits d t v) n.functions f held.functions-in functions-fitting
-
-  maps-fitting : All (MapFits d t v) (take n.maps m)
-  maps-fitting = rw held.maps (maps-fit d t v ok r)
-
-  pub all-maps-fit : (k : ℕ) → k < n.maps → MapFits d t v (get_or m k 0)
-  all-maps-fit = all-front (MapFits d t v) n.maps m held.maps-in maps-fitting
-
+module _ {d t : List ℕ} {v : View} (r : Readable d t v) (ok : object_refusal (object_in d t v) ≡ None) {s p f m : List ℕ} {l : Option Extent} {w : Option ℕ} (held : Held d t v s p f m l w) where
   source_known : (s : MapSource) → SourceFits d t v s → KnownSource v s
   source_known (MapSource.Section i) e = e
   source_known (MapSource.Symbol j) e = e.symbol
 
   -- ---- the tables
 
-  listed : (part : Part) (k : ℕ) (l : List ℕ) → k ≤ length l → k ≤ 69632 → All (PartFits part d t v) (take k l) → PartListed part d t v l k
-  listed part k l e g a = (e, g, r, all-front (PartFits part d t v) k l e a)
+  listed : (part : Part) (order : List ℕ) → length order ≤ 69632 → All (PartFits part d t v) order → PartListed part d t v order
+  listed part order few a = (few, λ k h. all-at (PartFits part d t v) order k a h)
 
-  pub sections-listed : PartListed (Part.Name Piece.SectionName) d t v s n.sections
-  sections-listed = listed (Part.Name Piece.SectionName) n.sections s held.sections-in held.few-sections (rw held.sections (sections-below d t v ok))
+  pub sections-listed : PartListed (Part.Name Piece.SectionName) d t v s
+  sections-listed = listed (Part.Name Piece.SectionName) s held.few-sections (rw held.sections (sections-below d t v ok))
 
-  pub programs-listed : PartListed (Part.Name Piece.SymbolName) d t v p n.programs
-  programs-listed = listed (Part.Name Piece.SymbolName) n.programs p held.programs-in held.few-programs (rw held.programs (programs-below d t v ok))
+  pub programs-listed : PartListed (Part.Name Piece.SymbolName) d t v p
+  programs-listed = listed (Part.Name Piece.SymbolName) p held.few-programs (rw held.programs (programs-below d t v ok))
 
-  pub functions-listed : PartListed (Part.Name Piece.SymbolName) d t v f n.functions
-  functions-listed =
-      listed (Part.Name Piece.SymbolName) n.functions f held.functions-in (omega (arith, held.few-functions))
-      (all-weaken (FunctionFits d t v) (Known Piece.SymbolName v) (take n.functions f) (λ j e. e.symbol) functions-fitting)
+  pub functions-listed : PartListed (Part.Name Piece.SymbolName) d t v f
+  functions-listed = (omega (arith, held.few-functions), λ k h. (all-functions-fit r ok held.functions k h).symbol)
 
-  pub code-listed : PartListed Part.Code d t v f n.functions
-  code-listed = listed Part.Code n.functions f held.functions-in (omega (arith, held.few-functions)) functions-fitting
+  pub code-listed : PartListed Part.Code d t v f
+  code-listed = (omega (arith, held.few-functions), all-functions-fit r ok held.functions)
 
-  pub maps-listed : PartListed (Part.Name Piece.MapName) d t v m n.maps
-  maps-listed =
-      listed (Part.Name Piece.MapName) n.maps m held.maps-in held.few-maps
-      (all-weaken (MapFits d t v) (Known Piece.MapName v) (take n.maps m) (λ j e. source_known (map_source_of v.sections j) e) maps-fitting)
+  pub maps-listed : PartListed (Part.Name Piece.MapName) d t v m
+  maps-listed = (held.few-maps, λ k h. source_known (map_source_of v.sections (get_or m k 0)) (all-maps-fit r ok held.maps k h))
 
-  pub own-listed : PartListed Part.Own d t v m n.maps
-  own-listed = (held.maps-in, held.few-maps, r, λ k l. tt)
+  pub own-listed : PartListed Part.Own d t v m
+  own-listed = (held.few-maps, λ k h. tt)
 
   -- ---- the parts, by the tables in hand
 
   abbrev c : Catalogue
   c = catalogue d t v
 
-  pub names-of-sections : each (piece_of Piece.SectionName d t v) (take n.sections s) ≡ each section_name c.sections
+  names-of-sections : each (piece_of Piece.SectionName d t v) s ≡ each section_name c.sections
   names-of-sections = rw held.sections (sym (section-names d t v r ok))
 
-  pub names-of-programs : each (piece_of Piece.SymbolName d t v) (take n.programs p) ≡ each program_name c.programs
+  names-of-programs : each (piece_of Piece.SymbolName d t v) p ≡ each program_name c.programs
   names-of-programs = rw held.programs (sym (program-names d t v r ok))
 
-  pub names-of-functions : each (piece_of Piece.SymbolName d t v) (take n.functions f) ≡ each function_name c.functions
+  names-of-functions : each (piece_of Piece.SymbolName d t v) f ≡ each function_name c.functions
   names-of-functions = rw held.functions (sym (function-names d t v r ok))
 
-  pub code-of-functions : each (code_at d t v) (take n.functions f) ≡ each function_code c.functions
+  pub code-of-functions : each (code_at d t v) f ≡ each function_code c.functions
   code-of-functions = rw held.functions (sym (function-code d t v r ok))
 
-  pub names-of-maps : each (piece_of Piece.MapName d t v) (take n.maps m) ≡ each map_name c.maps
+  names-of-maps : each (piece_of Piece.MapName d t v) m ≡ each map_name c.maps
   names-of-maps = rw held.maps (sym (map-names d t v r ok))
 
-  pub own-of-maps : each (own_bytes d t v) (take n.maps m) ≡ each map_own c.maps
+  own-of-maps : each (own_bytes d t v) m ≡ each map_own c.maps
   own-of-maps = rw held.maps (sym (map-own d t v r ok))
 
-  -- ---- the places
+  -- ---- the places, by lengths that were summed up
 
-  -- lengths that were summed up
-  module _ (l a b e g i k : ℕ) (q₀ : l ≡ length (licence_of (object_in d t v)))
-      (q₁ : a ≡ length (each (piece_of Piece.SectionName d t v) (take n.sections s)))
-      (q₂ : b ≡ length (each (piece_of Piece.SymbolName d t v) (take n.programs p)))
-      (q₃ : e ≡ length (each (piece_of Piece.SymbolName d t v) (take n.functions f)))
-      (q₄ : g ≡ length (each (code_at d t v) (take n.functions f)))
-      (q₅ : i ≡ length (each (piece_of Piece.MapName d t v) (take n.maps m)))
-      (q₆ : k ≡ length (each (own_bytes d t v) (take n.maps m))) where
-    of-licence : l ≡ length c.licence
-    of-licence = q₀ ∙ ap length (sym (licence-is d t v r ok))
-
-    of-sections : a ≡ length (each section_name c.sections)
-    of-sections = q₁ ∙ ap length names-of-sections
-
-    of-programs : b ≡ length (each program_name c.programs)
-    of-programs = q₂ ∙ ap length names-of-programs
-
-    of-functions : e ≡ length (each function_name c.functions)
-    of-functions = q₃ ∙ ap length names-of-functions
-
-    of_code : g ≡ length (each function_code c.functions)
-    of_code = q₄ ∙ ap length code-of-functions
-
-    of-maps : i ≡ length (each map_name c.maps)
-    of-maps = q₅ ∙ ap length names-of-maps
-
-    of-own : k ≡ length (each map_own c.maps)
-    of-own = q₆ ∙ ap length own-of-maps
-
-    sum_is : l + a + b + e + g + i + k ≡ length (bytes_of c)
-    unfolding sections_at programs_at functions_at code_start maps_at own_start
-    sum_is = rw (of-licence, of-sections, of-programs, of-functions, of_code, of-maps, of-own) (sym (bytes-end c))
-
-    pub places-are : l + a + b + e + g + i + k < 2 ^ 44
-        → At c (record { sections = l; programs = l + a; functions = l + a + b; code = l + a + b + e; maps = l + a + b + e + g; own = l + a + b + e + g + i; end = l + a + b + e + g + i + k })
-    unfolding sections_at programs_at functions_at code_start maps_at own_start
-    places-are small =
-        record {
-          sections = of-licence;
-          programs = rw (of-licence, of-sections);
-          functions = rw (of-licence, of-sections, of-programs);
-          code = rw (of-licence, of-sections, of-programs, of-functions);
-          maps = rw (of-licence, of-sections, of-programs, of-functions, of_code);
-          own = rw (of-licence, of-sections, of-programs, of-functions, of_code, of-maps);
-          end = sum_is;
-          small = rw (← sum_is) small;
-        }
+  pub places-are : (l a b e g i k : ℕ) → l ≡ length (licence_of (object_in d t v)) → a ≡ length (each (piece_of Piece.SectionName d t v) s)
+      → b ≡ length (each (piece_of Piece.SymbolName d t v) p) → e ≡ length (each (piece_of Piece.SymbolName d t v) f) → g ≡ length (each (code_at d t v) f)
+      → i ≡ length (each (piece_of Piece.MapName d t v) m) → k ≡ length (each (own_bytes d t v) m) → l + a + b + e + g + i + k < 2 ^ 44
+      → At c (record { sections = l; programs = l + a; functions = l + a + b; code = l + a + b + e; maps = l + a + b + e + g; own = l + a + b + e + g + i; end = l + a + b + e + g + i + k })
+  unfolding sections_at programs_at functions_at code_start maps_at own_start
+  places-are l a b e g i k q₀ q₁ q₂ q₃ q₄ q₅ q₆ small =
+      let p₀ : l ≡ length c.licence = q₀ ∙ ap length (sym (licence-is d t v r ok)) in
+      let p₁ : a ≡ length (each section_name c.sections) = q₁ ∙ ap length names-of-sections in
+      let p₂ : b ≡ length (each program_name c.programs) = q₂ ∙ ap length names-of-programs in
+      let p₃ : e ≡ length (each function_name c.functions) = q₃ ∙ ap length names-of-functions in
+      let p₄ : g ≡ length (each function_code c.functions) = q₄ ∙ ap length code-of-functions in
+      let p₅ : i ≡ length (each map_name c.maps) = q₅ ∙ ap length names-of-maps in
+      let p₆ : k ≡ length (each map_own c.maps) = q₆ ∙ ap length own-of-maps in
+      let end = bytes-end c in
+      record {
+        sections = p₀;
+        programs = omega arith;
+        functions = omega arith;
+        code = omega arith;
+        maps = omega arith;
+        own = omega arith;
+        end = omega arith;
+        small = omega arith;
+      }
 
   -- ---- all of them
 
-  pub bytes-length : length (bytes_of c)
-      ≡ length (licence_of (object_in d t v)) + length (each (piece_of Piece.SectionName d t v) (take n.sections s))
-      + length (each (piece_of Piece.SymbolName d t v) (take n.programs p)) + length (each (piece_of Piece.SymbolName d t v) (take n.functions f))
-      + length (each (code_at d t v) (take n.functions f)) + length (each (piece_of Piece.MapName d t v) (take n.maps m))
-      + length (each (own_bytes d t v) (take n.maps m))
-  bytes-length = sym (sum_is _ _ _ _ _ _ _ refl refl refl refl refl refl refl)
-
-  pub bytes-are : ((((((licence_of (object_in d t v) ++ each (piece_of Piece.SectionName d t v) (take n.sections s)) ++ each (piece_of Piece.SymbolName d t v) (take n.programs p))
-      ++ each (piece_of Piece.SymbolName d t v) (take n.functions f)) ++ each (code_at d t v) (take n.functions f)) ++ each (piece_of Piece.MapName d t v) (take n.maps m))
-      ++ each (own_bytes d t v) (take n.maps m)) ≡ bytes_of c
+  pub bytes-are : ((((((licence_of (object_in d t v) ++ each (piece_of Piece.SectionName d t v) s) ++ each (piece_of Piece.SymbolName d t v) p)
+      ++ each (piece_of Piece.SymbolName d t v) f) ++ each (code_at d t v) f) ++ each (piece_of Piece.MapName d t v) m)
+      ++ each (own_bytes d t v) m) ≡ bytes_of c
   unfolding bytes_of
   bytes-are = rw (← licence-is d t v r ok, names-of-sections, names-of-programs, names-of-functions, code-of-functions, names-of-maps, own-of-maps, append_assoc, append_assoc, append_assoc, append_assoc, append_assoc)
+
+  pub bytes-length : length (bytes_of c)
+      ≡ length (licence_of (object_in d t v)) + length (each (piece_of Piece.SectionName d t v) s)
+      + length (each (piece_of Piece.SymbolName d t v) p) + length (each (piece_of Piece.SymbolName d t v) f)
+      + length (each (code_at d t v) f) + length (each (piece_of Piece.MapName d t v) m)
+      + length (each (own_bytes d t v) m)
+  bytes-length = ap length (sym bytes-are) ∙ rw (length-append, length-append, length-append, length-append, length-append, length-append)
+
+  -- the licence is laid: there is room for what is behind it
+  pub bytes-laid : (t₀ : List ℕ) {n : ℕ} {out : List ℕ} → n ≡ length (licence_of (object_in d t v)) → length (bytes_of c) ≤ length t₀ → out ≡ licence_of (object_in d t v) ++ drop n t₀
+      → Laid t₀ (licence_of (object_in d t v))
+      (each (piece_of Piece.SectionName d t v) s ++ (each (piece_of Piece.SymbolName d t v) p ++ (each (piece_of Piece.SymbolName d t v) f ++ (each (code_at d t v) f ++ (each (piece_of Piece.MapName d t v) m ++ (each (own_bytes d t v) m ++ [])))))) n out
+  bytes-laid t₀ e room g = record { reach = e; room = rw (length-append, length-append, length-append, length-append, length-append, length-append) (omega (arith, bytes-length, e, room)); held = g }

@@ -3,5 +3,5 @@ pub mod Parts
 pub mod Licence
 pub mod Bounds
 pub mod Held
-pub mod Next
+pub mod Laid
 pub mod Listed

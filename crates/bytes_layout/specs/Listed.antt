@@ -1,7 +1,6 @@
 -- What is laid for each number of a table: a name, a function's code or a map's own bytes.
 use Rattle.std.specs.Prelude.{List, ℕ, ◌<◌, ◌≤◌, length, get_or}
 use Rattle.object_view.specs.declared.View.{View}
-use Rattle.records.specs.Readable.{Readable}
 use Rattle.catalogue_numbers.specs.Fits.{FunctionFits}
 use Rattle.bytes_names.specs.Inside.{Known}
 use Rattle.bytes_names.specs.Pieces.{piece_of}
@@ -20,6 +19,6 @@ PartFits (Part.Name which) d t v j = Known which v j
 PartFits Part.Code d t v j = FunctionFits d t v j
 PartFits Part.Own d t v j = Unit {0}
 
--- the first n numbers of a table do
-abbrev pub PartListed : Part → List ℕ → List ℕ → View → List ℕ → ℕ → Type 0
-PartListed part d t v order n = (n ≤ length order) × (n ≤ 69632) × Readable d t v × ((k : ℕ) → k < n → PartFits part d t v (get_or order k 0))
+-- the numbers of a table do
+abbrev pub PartListed : Part → List ℕ → List ℕ → View → List ℕ → Type 0
+PartListed part d t v order = (length order ≤ 69632) × ((k : ℕ) → k < length order → PartFits part d t v (get_or order k 0))

@@ -7,8 +7,10 @@ ghost use Rattle.model.specs.Lent.{lent, room_in, outcome, load_of};
 use deposit::open;
 use load_opened::load_opened;
 use model::{Function, Refusal, Summary};
+use patch_checks::PatchList;
 
-// A deposit is opened and loaded; it has no index.
+// A deposit is opened and loaded.
+#[tactic(auto, using(load_core::specs::Opened::deposit_outcome))]
 pub fn load(
     d: &[u8],
     entries: &[u64],
@@ -26,14 +28,13 @@ pub fn load(
         (room_in
         (lent sections.old programs.old functions.old maps.old relocations.old bytes.old)) }
 {
-    let opened = open(d);
-    let t = [0u32; 0];
-    load_opened(
-        d,
-        &t,
-        opened,
+    let list = PatchList {
         entries,
-        patches,
+        bytes: patches,
+    };
+    load_opened(
+        open(d),
+        list,
         rewrite,
         sections,
         programs,

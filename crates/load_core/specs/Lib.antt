@@ -1,2 +1,2 @@
--- The load call without the function table.
-pub mod Core
+-- What a load of what was opened decides.
+pub mod Opened

@@ -7,7 +7,6 @@ use Rattle.lists.specs.Tests.{both_true}
 use Rattle.model.specs.Catalogue.{Catalogue}
 use Rattle.model.specs.Lent.{bytes_of, image_of, fits_in}
 use Rattle.model.specs.declared.Room.{Room}
-use Rattle.parse_sections.specs.declared.Counts.{Counts}
 use Rattle.load_image.specs.Tables.{long-sections, long-programs, long-functions, long-maps, long-relocations}
 
 image-bytes : (c : Catalogue) → (image_of c).bytes ≡ bytes_of c
@@ -15,12 +14,12 @@ unfolding image_of
 image-bytes c = refl
 
 -- by how many rows there is room for
-unfoldable pub fits_by : Room → Counts → ℕ → ℕ → Bool
-fits_by r n relocations bytes =
-    leb n.sections (r.sections / 4)
-    && (leb n.programs (r.programs / 7)
-    && (leb n.functions r.functions
-    && (leb n.maps (r.maps / 27)
+abbrev pub fits_by : Room → ℕ → ℕ → ℕ → ℕ → ℕ → ℕ → Bool
+fits_by r sections programs functions maps relocations bytes =
+    leb sections (r.sections / 4)
+    && (leb programs (r.programs / 7)
+    && (leb functions r.functions
+    && (leb maps (r.maps / 27)
     && (leb relocations (r.relocations / 4)
     && leb bytes r.bytes))))
 
@@ -45,53 +44,16 @@ by-maps n r = go (leb n (r / 27)) refl
     go true e = let q : n ≤ r / 27 = leb-true _ _ e in le-leb (n * 27) r (omega arith)
     go false e = let q : r / 27 < n = leb-false _ _ e in lt-leb (n * 27) r (omega arith)
 
-module _ (r : Room) (n : Counts) (count size : ℕ) where
-  pub fits-by : (c : Catalogue) → length c.sections ≡ n.sections → length c.programs ≡ n.programs → length c.functions ≡ n.functions → length c.maps ≡ n.maps
-      → length c.relocations ≡ count → length (bytes_of c) ≡ size → fits_in r (image_of c) ≡ fits_by r n count size
-  unfolding fits_in fits_by
-  fits-by c e₁ e₂ e₃ e₄ e₅ e₆ =
-      let q₁ : leb (length (image_of c).sections) r.sections ≡ leb n.sections (r.sections / 4) = rw (long-sections c, e₁) (by-fours n.sections r.sections) in
-      let q₂ : leb (length (image_of c).programs) r.programs ≡ leb n.programs (r.programs / 7) = rw (long-programs c, e₂) (by-sevens n.programs r.programs) in
-      let q₃ : leb (length (image_of c).functions) r.functions ≡ leb n.functions r.functions = rw (long-functions c, e₃) in
-      let q₄ : leb (length (image_of c).maps) r.maps ≡ leb n.maps (r.maps / 27) = rw (long-maps c, e₄) (by-maps n.maps r.maps) in
-      let q₅ : leb (length (image_of c).relocations) r.relocations ≡ leb count (r.relocations / 4) = rw (long-relocations c, e₅) (by-fours count r.relocations) in
-      let q₆ : leb (length (image_of c).bytes) r.bytes ≡ leb size r.bytes = rw (image-bytes c, e₆) in
-      λ k. q₁ k && (q₂ k && (q₃ k && (q₄ k && (q₅ k && q₆ k))))
-
-  -- what room for the rows says of each table
-  pub record Roomy : Type 0 where
-    pub sections : n.sections * 4 ≤ r.sections
-    pub programs : n.programs * 7 ≤ r.programs
-    pub functions : n.functions ≤ r.functions
-    pub maps : n.maps * 27 ≤ r.maps
-    pub relocations : count * 4 ≤ r.relocations
-    pub bytes : size ≤ r.bytes
-
-  pub roomy : fits_by r n count size ≡ true → Roomy
-  unfolding fits_by
-  roomy e =
-      let (t₁, u₁) = both_true _ _ e in
-      let (t₂, u₂) = both_true _ _ u₁ in
-      let (t₃, u₃) = both_true _ _ u₂ in
-      let (t₄, u₄) = both_true _ _ u₃ in
-      let (t₅, t₆) = both_true _ _ u₄ in
-      let p₁ : n.sections ≤ r.sections / 4 = leb-true _ _ t₁ in
-      let p₂ : n.programs ≤ r.programs / 7 = leb-true _ _ t₂ in
-      let p₄ : n.maps ≤ r.maps / 27 = leb-true _ _ t₄ in
-      let p₅ : count ≤ r.relocations / 4 = leb-true _ _ t₅ in
-      record { sections = omega arith; programs = omega arith; functions = leb-true _ _ t₃; maps = omega arith; relocations = omega arith; bytes = leb-true _ _ t₆ }
-
-  pub not-roomy : (Roomy → ⊥) → false ≡ fits_by r n count size
-  not-roomy never = go (fits_by r n count size) refl
-    where
-      go : (b : Bool) → fits_by r n count size ≡ b → false ≡ b
-      go true e = absurd (never (roomy e))
-      go false e = refl
-
-  pub roomy-but-bytes : n.sections ≤ r.sections / 4 → n.programs ≤ r.programs / 7 → n.functions ≤ r.functions → n.maps ≤ r.maps / 27 → count ≤ r.relocations / 4
-      → leb size r.bytes ≡ fits_by r n count size
-  unfolding fits_by
-  roomy-but-bytes e₁ e₂ e₃ e₄ e₅ = rw (le-leb _ _ e₁, le-leb _ _ e₂, le-leb _ _ e₃, le-leb _ _ e₄, le-leb _ _ e₅)
+pub fits-by : (r : Room) (c : Catalogue) → fits_in r (image_of c) ≡ fits_by r (length c.sections) (length c.programs) (length c.functions) (length c.maps) (length c.relocations) (length (bytes_of c))
+unfolding fits_in
+fits-by r c =
+    let q₁ : leb (length (image_of c).sections) r.sections ≡ leb (length c.sections) (r.sections / 4) = rw (long-sections c) (by-fours (length c.sections) r.sections) in
+    let q₂ : leb (length (image_of c).programs) r.programs ≡ leb (length c.programs) (r.programs / 7) = rw (long-programs c) (by-sevens (length c.programs) r.programs) in
+    let q₃ : leb (length (image_of c).functions) r.functions ≡ leb (length c.functions) r.functions = rw (long-functions c) in
+    let q₄ : leb (length (image_of c).maps) r.maps ≡ leb (length c.maps) (r.maps / 27) = rw (long-maps c) (by-maps (length c.maps) r.maps) in
+    let q₅ : leb (length (image_of c).relocations) r.relocations ≡ leb (length c.relocations) (r.relocations / 4) = rw (long-relocations c) (by-fours (length c.relocations) r.relocations) in
+    let q₆ : leb (length (image_of c).bytes) r.bytes ≡ leb (length (bytes_of c)) r.bytes = rw (image-bytes c) in
+    λ k. q₁ k && (q₂ k && (q₃ k && (q₄ k && (q₅ k && q₆ k))))
 
 -- what fits, table by table
 pub record Spacious (c : Catalogue) (r : Room) : Type 0 where

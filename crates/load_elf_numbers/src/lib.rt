@@ -5,11 +5,13 @@ ghost use Rattle.std.specs.Prelude.{◌≡◌, length};
 ghost use Rattle.model.specs.ElfRefusals.{load_elf_of};
 ghost use Rattle.model.specs.FunctionNumbers.{flat, flat_of, flat_room};
 
-use elf::open;
 use elf_tables::check;
+use load_file::open_file;
 use load_numbers::load_flat_opened;
 use model::{Refusal, Summary};
+use patch_checks::PatchList;
 
+#[tactic(auto, using(load_file::specs::Files::file_outcome))]
 pub fn load_flat_elf(
     d: &[u8],
     entries: &[u64],
@@ -28,16 +30,15 @@ pub fn load_flat_elf(
         (flat_room sections.old programs.old functions.old
         maps.old relocations.old bytes.old)) }
 {
-    let checked = check(d);
+    let list = PatchList {
+        entries,
+        bytes: patches,
+    };
     // No index of a file is longer.
     let mut t = [0u32; 143360];
-    let opened = open(d, checked, &mut t);
     load_flat_opened(
-        d,
-        &t,
-        opened,
-        entries,
-        patches,
+        open_file(d, check(d), &mut t),
+        list,
         rewrite,
         sections,
         programs,

@@ -1,26 +1,24 @@
 -- The bytes of a catalogue as parts: patching replaces the maps' own, rewriting the code.
 use Rattle.std.specs.Prelude.{◌≡◌, Bool, true, false, ℕ, ◌+◌, ◌-◌, ◌<◌, ◌≤◌, take, drop, replicate, None}
 use Rattle.std.proofs.Math.Path.{refl, sym, ap}
-use Rattle.std.proofs.Common.{◌∙◌, arith, le_refl, take_at, drop_at, drop-drop}
+use Rattle.std.proofs.Common.{◌∙◌, arith, take_at, drop_at}
 use mathlib.Core.List.{List, [], ◌++◌, map, append_assoc}
 use Rattle.std.proofs.Math.ListN.{length, length-append}
-use Rattle.std.proofs.lemmas.List.{length-replicate}
 use Rattle.std.proofs.Math.Seq.{take-length}
-use Rattle.lists.specs.Part.{part-whole}
+use Rattle.std.proofs.lemmas.List.{length-replicate}
 use Rattle.object_view.specs.declared.View.{View}
-use Rattle.model.specs.Bytes.{each, part, records}
+use Rattle.model.specs.Bytes.{each, records}
 use Rattle.model.specs.PatchList.{patches_of}
 use Rattle.model.specs.Refusals.{object_refusal}
 use Rattle.stream.specs.Stream.{byte_at}
 use Rattle.object.specs.View.{object_in}
-use Rattle.catalogue_numbers.specs.Fits.{FunctionFits}
-use Rattle.catalogue_numbers.specs.Numbers.{function_by_number, function_numbers, functions-by}
-use Rattle.accepted_numbers.specs.Numbers.{functions-fit}
 use Rattle.records.specs.Readable.{Readable}
 use Rattle.records.specs.View.{gap_of}
-use Rattle.bytes_code.specs.Code.{code_at, AllFit}
-use Rattle.bytes_layout.specs.Bounds.{all-front}
-use Rattle.bytes_layout.specs.Parts.{catalogue, function-code}
+use Rattle.bytes_layout.specs.declared.Places.{Places}
+use Rattle.catalogue_numbers.specs.Numbers.{function_numbers}
+use Rattle.bytes_layout.specs.Held.{At, parts-inside, all-functions-fit}
+use Rattle.bytes_layout.specs.Parts.{catalogue}
+use Rattle.load_image.specs.Tables.{functions-are}
 use Rattle.model.specs.Catalogue.{Function, Catalogue}
 use Rattle.model.specs.Lent.{filled, section_name, program_name, function_name, function_code, map_name, map_own, bytes_of, sections_at, programs_at, functions_at, code_start, maps_at, own_start}
 use Rattle.model.specs.Object.{Object, Patch}
@@ -30,23 +28,20 @@ use Rattle.bytes_code.specs.Rewritten.{AllEncoded, rewritten-code, all-encoded}
 use Rattle.finish_laws.specs.Alike.{alike-finish, bytes-long}
 use Rattle.patch_data.specs.Patched.{maps-patched}
 
--- ---- a part of a list replaced
+-- ---- a part of a list that is lent, and comes back as x
 
 module _ (a b c x : List ℕ) (p q : ℕ) (e : p ≡ length a) (f : q ≡ p + length b) where
-  behind : drop q (a ++ (b ++ c)) ≡ c
-  behind =
-      ap (λ (n : ℕ). drop n (a ++ (b ++ c))) f
-      ∙ sym (drop-drop (length b) p (a ++ (b ++ c)))
-      ∙ ap (drop (length b)) (drop_at a (b ++ c) p (sym e))
-      ∙ drop_at b c (length b) refl
+  behind : drop p (a ++ (b ++ c)) ≡ b ++ c
+  behind = drop_at a (b ++ c) p (sym e)
 
-  pub part-replaced : take p (a ++ (b ++ c)) ++ (x ++ drop q (a ++ (b ++ c))) ≡ a ++ (x ++ c)
-  part-replaced = rw (behind, take_at a (b ++ c) p (sym e))
+  long : q - p ≡ length b
+  long = omega arith
 
-  pub the-part : part (a ++ (b ++ c)) p (q - p) ≡ b
-  the-part =
-      let g : q - p ≡ length b = omega arith in
-      rw (g, drop_at a (b ++ c) p (sym e)) (take_at b c (length b) refl)
+  part-replaced : take p (a ++ (b ++ c)) ++ (x ++ drop (q - p) (drop p (a ++ (b ++ c)))) ≡ a ++ (x ++ c)
+  part-replaced = rw (behind, take_at a (b ++ c) p (sym e), long, drop_at b c (length b) refl)
+
+  the-part : take (q - p) (drop p (a ++ (b ++ c))) ≡ b
+  the-part = rw (behind, long) (take_at b c (length b) refl)
 
 -- ---- the parts of a catalogue's bytes
 
@@ -97,6 +92,9 @@ unfolding finish rewritten
 code-finished o ps true c h = rewritten-code c.functions h ∙ ap (λ (fs : List Function). each function_code (map rewrite_function fs)) (sym (functions-patched o ps c))
 code-finished o ps false c h = sanitized-off (code c) ∙ ap (each function_code) (sym (functions-patched o ps c))
 
+long-done : (o : Object) (ps : List Patch) (on : Bool) (c : Catalogue) → length (bytes_of (finish o ps on c)) ≡ length (bytes_of c)
+long-done o ps on c = bytes-long c (finish o ps on c) (alike-finish o ps on c)
+
 module _ (o : Object) (ps : List Patch) (on : Bool) (c : Catalogue) where
   abbrev done : Catalogue
   done = finish o ps on c
@@ -116,90 +114,82 @@ module _ (o : Object) (ps : List Patch) (on : Bool) (c : Catalogue) where
       bytes-split done
       ∙ (λ i. front-done i ++ (each function_code done.functions ++ (a.map-names i ++ each map_own (maps-finished o ps on c i))))
 
-  module _ (enc : AllEncoded c.functions) (b₀ b₁ b₂ b₃ : List ℕ) (at maps own end : ℕ) (e₁ : at ≡ code_start c) (e₂ : maps ≡ maps_at c) (e₃ : own ≡ own_start c)
-      (e₄ : end ≡ length (bytes_of c)) (laid : b₁ ≡ bytes_of c ++ drop end b₀) where
-    abbrev rest : List ℕ
-    rest = drop end b₀
+-- ---- the bytes as they are lent, with zeros behind
 
-    abbrev before-own : List ℕ
-    before-own = front c ++ (code c ++ names c)
+-- the parts that are lent lie inside
+pub record InOrder (q : Places) (t : List ℕ) : Type 0 where
+  pub own : q.own ≤ q.end
+  pub code : q.code ≤ q.maps
+  pub maps : q.maps ≤ q.end
+  pub end : q.end ≤ length t
 
-    first : b₁ ≡ before-own ++ (each map_own c.maps ++ rest)
-    first = laid ∙ ap (λ (l : List ℕ). l ++ rest) (bytes-split c) ∙ simp append_assoc
+module _ {c : Catalogue} {q : Places} (at : At c q) {t : List ℕ} (lent : t ≡ filled 0 (length t) (bytes_of c)) where
+  pub in-order : InOrder q t
+  in-order =
+      let long : length t ≡ length (bytes_of c) + (length t - length (bytes_of c)) = ap length lent ∙ rw (length-append, length-replicate) in
+      let i = parts-inside c in
+      let e = code-end c in
+      record { own = omega arith; code = omega arith; maps = omega arith; end = omega arith }
 
-    reach-own : own ≡ length before-own
-    reach-own = e₃ ∙ own-start c
+  abbrev rest : List ℕ
+  rest = replicate (length t - length (bytes_of c)) 0
 
-    reach-end : end ≡ own + length (each map_own c.maps)
-    reach-end = e₄ ∙ own-end c ∙ ap (λ (n : ℕ). n + length (each map_own c.maps)) (sym e₃)
+  abbrev before-own : List ℕ
+  before-own = front c ++ (code c ++ names c)
 
-    -- what is patched are the maps' own bytes
-    pub own-there : part b₁ own (end - own) ≡ each map_own c.maps
-    own-there = ap (λ (l : List ℕ). part l own (end - own)) first ∙ the-part before-own (each map_own c.maps) rest [] own end reach-own reach-end
+  first : t ≡ before-own ++ (each map_own c.maps ++ rest)
+  first = lent ∙ ap (λ (l : List ℕ). l ++ rest) (bytes-split c) ∙ simp append_assoc
 
-    module _ (patch : b₂ ≡ take own b₁ ++ (own-done ++ drop end b₁)) where
-      second : b₂ ≡ front c ++ (code c ++ (names c ++ (own-done ++ rest)))
-      second =
-          patch
-          ∙ ap (λ (l : List ℕ). take own l ++ (own-done ++ drop end l)) first
-          ∙ part-replaced before-own (each map_own c.maps) rest own-done own end reach-own reach-end
-          ∙ simp append_assoc
+  reach-own : q.own ≡ length before-own
+  reach-own = at.own ∙ own-start c
 
-      reach-code : at ≡ length (front c)
-      reach-code = e₁ ∙ sym (front_length c)
+  reach-end : q.end ≡ q.own + length (each map_own c.maps)
+  reach-end = at.end ∙ own-end c ∙ ap (λ (n : ℕ). n + length (each map_own c.maps)) (sym at.own)
 
-      reach-names : maps ≡ at + length (code c)
-      reach-names = e₂ ∙ code-end c ∙ ap (λ (n : ℕ). n + length (code c)) (sym e₁)
+  reach-code : q.code ≡ length (front c)
+  reach-code = at.code ∙ sym (front_length c)
 
-      pub all_finished : b₃ ≡ take at b₂ ++ (sanitized on (part b₂ at (maps - at)) ++ drop maps b₂) → b₃ ≡ bytes_of done ++ rest
-      all_finished f =
-          let tail : List ℕ = names c ++ (own-done ++ rest) in
-          f
-          ∙ ap (λ (l : List ℕ). take at l ++ (sanitized on (part l at (maps - at)) ++ drop maps l)) second
-          ∙ ap (λ (l : List ℕ). take at (front c ++ (code c ++ tail)) ++ (sanitized on l ++ drop maps (front c ++ (code c ++ tail)))) (the-part (front c) (code c) tail [] at maps reach-code reach-names)
-          ∙ part-replaced (front c) (code c) tail (sanitized on (code c)) at maps reach-code reach-names
-          ∙ ap (λ (l : List ℕ). front c ++ (l ++ tail)) (code-finished o ps on c enc)
-          ∙ sym (ap (λ (l : List ℕ). l ++ rest) bytes-done ∙ simp append_assoc)
+  reach-names : q.maps ≡ q.code + length (code c)
+  reach-names = at.maps ∙ code-end c ∙ ap (λ (n : ℕ). n + length (code c)) (sym at.code)
+
+  pub own-there : take (q.end - q.own) (drop q.own t) ≡ each map_own c.maps
+  own-there = rw (← first) at (the-part before-own (each map_own c.maps) rest [] q.own q.end reach-own reach-end)
+
+  -- the maps' own are patched, then the code is rewritten
+  module _ (o : Object) (ps : List Patch) (on : Bool) {y : List ℕ} (patch : y ≡ each map_own (patched o ps c).maps) where
+    abbrev then : List ℕ
+    then = take q.own t ++ (y ++ drop (q.end - q.own) (drop q.own t))
+
+    abbrev tail : List ℕ
+    tail = names c ++ (own-done o ps on c ++ rest)
+
+    second : then ≡ front c ++ (code c ++ tail)
+    second =
+        (λ i. take q.own (first i) ++ (patch i ++ drop (q.end - q.own) (drop q.own (first i))))
+        ∙ part-replaced before-own (each map_own c.maps) rest (own-done o ps on c) q.own q.end reach-own reach-end
+        ∙ simp append_assoc
+
+    pub all_finished : AllEncoded c.functions → {z : List ℕ} → z ≡ sanitized on (take (q.maps - q.code) (drop q.code then))
+        → take q.code then ++ (z ++ drop (q.maps - q.code) (drop q.code then)) ≡ filled 0 (length t) (bytes_of (finish o ps on c))
+    all_finished enc {z} f =
+        let code-done : z ≡ each function_code (finish o ps on c).functions =
+        f ∙ ap (λ (l : List ℕ). sanitized on (take (q.maps - q.code) (drop q.code l))) second
+        ∙ ap (sanitized on) (the-part (front c) (code c) tail [] q.code q.maps reach-code reach-names) ∙ code-finished o ps on c enc
+        in
+        (λ i. take q.code (second i) ++ (code-done i ++ drop (q.maps - q.code) (drop q.code (second i))))
+        ∙ part-replaced (front c) (code c) tail (each function_code (finish o ps on c).functions) q.code q.maps reach-code reach-names
+        ∙ sym (ap (λ (l : List ℕ). l ++ replicate (length t - length (bytes_of (finish o ps on c))) 0) (bytes-done o ps on c) ∙ simp (append_assoc, long-done o ps on c))
 
 -- ---- an empty list changes nothing
 
-no-patches : (entries lent : List ℕ) → length entries ≡ 0 → patches_of entries lent ≡ []
-unfolding patches_of records
-no-patches entries lent e = rw e
-
-pub untouched : (o : Object) (c : Catalogue) (entries lent out : List ℕ) (own end : ℕ) → length entries ≡ 0 → own ≤ end → part out own (end - own) ≡ each map_own c.maps
-    → out ≡ take own out ++ (each map_own (patched o (patches_of entries lent) c).maps ++ drop end out)
-unfolding patched
-untouched o c entries lent out own end e h f =
-    let g : own + (end - own) ≡ end = omega arith in
-    rw (no-patches entries lent e, ← f) (sym (rw g at (part-whole out own (end - own))))
+pub untouched : (o : Object) (c : Catalogue) (entries lent : List ℕ) → length entries ≡ 0 → each map_own c.maps ≡ each map_own (patched o (patches_of entries lent) c).maps
+unfolding patched patches_of records
+untouched o c entries lent e = rw e
 
 -- ---- what the numbers in hand say
 
-module _ (d t : List ℕ) (v : View) (r : Readable d t v) (ok : object_refusal (object_in d t v) ≡ None) where
-  -- the functions' numbers stand in front of fs: each fits its section, and their code ends where the maps' names begin
-  module _ (fs : List ℕ) (n : ℕ) (inside : n ≤ length fs) (front : take n fs ≡ function_numbers d t v) where
-    pub front-fit : AllFit d t v fs n
-    front-fit = all-front (FunctionFits d t v) n fs inside (rw front (functions-fit d t v ok r))
-
-    pub code-ends : maps_at (catalogue d t v) ≡ code_start (catalogue d t v) + length (each (code_at d t v) (take n fs))
-    unfolding maps_at
-    code-ends = ap (λ (l : List ℕ). code_start (catalogue d t v) + length l) (function-code d t v r ok ∙ ap (each (code_at d t v)) (sym front))
-
-  pub functions-encoded : (small : (k : ℕ) → byte_at d (gap_of v) k < 256) → AllEncoded (catalogue d t v).functions
-  functions-encoded small =
-      let ns = function_numbers d t v in
-      let whole = take-length ns in
-      let fit : AllFit d t v ns (length ns) = all-front (FunctionFits d t v) (length ns) ns (le_refl (length ns)) (rw whole (functions-fit d t v ok r)) in
-      rw (functions-by d t v r, ← ap (map (function_by_number d t v)) whole) (all-encoded d t v small ns (length ns) fit)
-
-pub long-done : (o : Object) (ps : List Patch) (on : Bool) (c : Catalogue) → length (bytes_of (finish o ps on c)) ≡ length (bytes_of c)
-long-done o ps on c = bytes-long c (finish o ps on c) (alike-finish o ps on c)
-
--- ---- zeros behind
-
-pub behind-filled : (x t : List ℕ) (n : ℕ) → n ≡ length x → t ≡ filled 0 (length t) x → (t ≡ x ++ drop n t) × (drop n t ≡ replicate (length t - n) 0) × (n ≤ length t)
-behind-filled x t n e f =
-    let zeros : drop n t ≡ replicate (length t - n) 0 = ap (drop n) f ∙ drop_at x (replicate (length t - length x) 0) n (sym e) ∙ rw (← e) in
-    let long : length t ≡ length x + (length t - length x) = ap length f ∙ rw (length-append, length-replicate) in
-    (f ∙ rw (← e) (ap (λ (l : List ℕ). x ++ l) (sym zeros)), zeros, omega (arith, long, e))
+pub functions-encoded : {d t : List ℕ} {v : View} (r : Readable d t v) (ok : object_refusal (object_in d t v) ≡ None)
+    → ((k : ℕ) → byte_at d (gap_of v) k < 256) → AllEncoded (catalogue d t v).functions
+functions-encoded {d} {t} {v} r ok small =
+    let f : List ℕ = function_numbers d t v in
+    rw (← functions-are r {f = f} refl) (rw (take-length f) at (all-encoded d t v small f (length f) (all-functions-fit r ok {f = f} refl)))

@@ -1,3 +1,2 @@
 -- The bytes of an accepted catalogue, patched and rewritten.
 pub mod Finished
-pub mod Functions

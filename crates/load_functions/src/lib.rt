@@ -1,23 +1,25 @@
-// The load of what was opened with its function table: a core fills the plain tables and an array of record numbers of one size, and the rows of the
+// The load of an object with its function table: the plain tables are filled with an array of record numbers of one size, and the rows of the
 // function table follow by those.
 #![tactic(auto)]
 
 ghost use Rattle.std.specs.Prelude.{◌≡◌, ◌≤◌};
 ghost use Rattle.model.specs.Lent.{lent, room_in, outcome, outcome_in};
-ghost use Rattle.load_object.specs.Done.{Open, symbol_count, verdict_in};
+ghost use Rattle.model.specs.Patching.{load};
+ghost use Rattle.object.specs.View.{object_in};
+ghost use Rattle.records.specs.Of.{of};
+ghost use Rattle.patch_checks.specs.Lists.{patches_in};
 
-use load_core::load_core;
+use load_core::load_in_arrays;
 use model::{Function, Refusal, Summary};
-use object_view::View;
-use rows_functions::fill;
+use patch_checks::PatchList;
+use records::Object;
+use rows_functions::{fill_functions, zero_row};
 
-// Its array has N numbers, which are enough for the object's symbols.
+// Its array has N numbers, which are enough for the object's symbols. No call is laid into its caller, so that the array of each size has a frame of its own.
+#[inline(never)]
 pub fn load_functions<const N: usize>(
-    d: &[u8],
-    t: &[u32],
-    opened: Result<View, Refusal>,
-    entries: &[u64],
-    patches: &[u8],
+    object: Object,
+    list: PatchList,
     rewrite: bool,
     sections: &mut [u64],
     programs: &mut [u64],
@@ -26,22 +28,19 @@ pub fn load_functions<const N: usize>(
     relocations: &mut [u64],
     bytes: &mut [u8],
 ) -> Result<Summary, Refusal>
-    requires { Open d.now t.now opened × (symbol_count opened ≤ N) × (N ≤ 65536) }
+    requires { (object.records.view.symbols ≤ N) × (N ≤ 65536) }
     ensures { outcome result (lent sections.new programs.new functions.new maps.new relocations.new bytes.new)
         ≡ outcome_in (room_in
         (lent sections.old programs.old functions.old maps.old relocations.old bytes.old))
-        (verdict_in d.now t.now opened entries.now patches.now rewrite) }
+        (load (of object_in object.entry.records) (patches_in list.entry) rewrite) }
 {
-    let room = functions.len();
+    let rows = functions.len();
     let mut symbols = [0u32; N];
-    let loaded = load_core(
-        d,
-        t,
-        opened,
-        entries,
-        patches,
+    let loaded = load_in_arrays(
+        object,
+        list,
         rewrite,
-        room,
+        rows,
         sections,
         programs,
         maps,
@@ -49,6 +48,15 @@ pub fn load_functions<const N: usize>(
         bytes,
         &mut symbols,
     );
-    fill(functions, d, t, &symbols, loaded.rows);
-    loaded.answer
+    match loaded {
+        Ok(loaded) => {
+            let n = loaded.summary.functions as usize;
+            fill_functions(functions, object, &symbols[..n], loaded.rows);
+            Ok(loaded.summary)
+        }
+        Err(r) => {
+            functions.fill(zero_row());
+            Err(r)
+        }
+    }
 }

@@ -1,21 +1,13 @@
 -- A table whose front is stored, and whose rest is cleared.
 use Rattle.std.specs.Prelude.{◌≡◌, List, ◌++◌, ℕ, ◌-◌, ◌≤◌, length, take, drop, replicate}
-use Rattle.std.proofs.Common.{◌∙◌, arith, length-append, length-take, length-drop, take_at}
-use Rattle.lists.specs.Tab.{tail-put}
+use Rattle.std.proofs.Common.{◌∙◌, ap, arith, le_refl, append-nil, length-append, length-drop, drop_of_length-le, take_at, take_all}
 use Rattle.model.specs.Lent.{filled}
 
--- what stands before n is kept, and the rest is zero
-abbrev pub cleared_from : List ℕ → ℕ → List ℕ
-cleared_from t n = take n t ++ replicate (length t - n) 0
-
-pub filled_is : (x t : List ℕ) (w : ℕ) → length x ≡ w → w ≤ length t → cleared_from (x ++ drop w t) w ≡ filled 0 (length t) x
-filled_is x t w e h =
-    let l : length (x ++ drop w t) ≡ length t = length-append x (drop w t) ∙ rw (length-drop, e) (omega arith) in
-    rw (l, take_at x (drop w t) w e, ← e)
-
--- a tail that is lent as a part and comes back as zeros
-pub tail-cleared : (n : ℕ) (t ys : List ℕ) → n ≤ length t → ys ≡ replicate (length (take (length t - n) (drop n t))) 0
-    → take n t ++ (ys ++ drop (length t - n) (drop n t)) ≡ cleared_from t n
-tail-cleared n t ys h e =
-    let l : length (take (length t - n) (drop n t)) ≡ length t - n = rw (length-take, length-drop) (omega arith) in
-    tail-put n t ys h ∙ rw (e, l)
+-- x lies in front; what is behind it is lent, and comes back as zeros
+pub filled-behind : (x t out ys : List ℕ) (n : ℕ) → length x ≡ n → n ≤ length t → out ≡ x ++ drop n t → ys ≡ replicate (length (take (length out - n) (drop n out))) 0
+    → take n out ++ (ys ++ drop (length out - n) (drop n out)) ≡ filled 0 (length t) x
+filled-behind x t out ys n e h f g =
+    let l : length out ≡ length t = ap length f ∙ rw (length-append, length-drop, e) (omega arith) in
+    let front : take n out ≡ x = ap (take n) f ∙ take_at x (drop n t) n e in
+    let short : length (drop n out) ≤ length out - n = rw length-drop (le_refl (length out - n)) in
+    rw (drop_of_length-le (drop n out) short, append-nil, front, g, take_all (length out - n) (drop n out) short, length-drop, l, ← e)

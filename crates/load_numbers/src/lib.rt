@@ -4,21 +4,25 @@
 ghost use Rattle.std.specs.Prelude.{◌≡◌, length};
 ghost use Rattle.model.specs.FunctionNumbers.{flat, flat_of, flat_room};
 ghost use Rattle.model.specs.Lent.{load_of, outcome_in};
-ghost use Rattle.load_object.specs.Done.{Open, verdict_in};
+ghost use Rattle.model.specs.Patching.{load};
+ghost use Rattle.object.specs.View.{object_in};
+ghost use Rattle.records.specs.Of.{of};
+ghost use Rattle.patch_checks.specs.Lists.{patches_in};
+ghost use Rattle.load_core.specs.Opened.{verdict_in};
 
 use deposit::open;
-use load_core::load_core;
+use load_core::load_in_arrays;
+use load_fill::clear;
 use model::{Refusal, Summary};
-use object_view::View;
-use rows_numbers::fill_rows;
+use patch_checks::PatchList;
+use records::Object;
+use rows_numbers::fill_numbers;
 
-// The load of what was opened.
-pub fn load_flat_opened(
-    d: &[u8],
-    t: &[u32],
-    opened: Result<View, Refusal>,
-    entries: &[u64],
-    patches: &[u8],
+// The load of an object that was opened.
+#[tactic(auto, using(crate::proofs::Zeros::zeros_flat))]
+fn load_flat_object(
+    object: Object,
+    list: PatchList,
     rewrite: bool,
     sections: &mut [u64],
     programs: &mut [u64],
@@ -27,25 +31,21 @@ pub fn load_flat_opened(
     relocations: &mut [u64],
     bytes: &mut [u8],
 ) -> Result<Summary, Refusal>
-    requires { Open d.now t.now opened }
     ensures { flat result sections.new programs.new functions.new maps.new relocations.new bytes.new
         ≡ flat_of (length functions.old)
         (outcome_in
         (flat_room sections.old programs.old functions.old
         maps.old relocations.old bytes.old)
-        (verdict_in d.now t.now opened entries.now patches.now rewrite)) }
+        (load (of object_in object.entry.records) (patches_in list.entry) rewrite)) }
 {
-    let room = functions.len() / 7;
     // No object that was opened has more symbols.
     let mut symbols = [0u32; 65536];
-    let loaded = load_core(
-        d,
-        t,
-        opened,
-        entries,
-        patches,
+    let rows = functions.len() / 7;
+    let loaded = load_in_arrays(
+        object,
+        list,
         rewrite,
-        room,
+        rows,
         sections,
         programs,
         maps,
@@ -53,12 +53,61 @@ pub fn load_flat_opened(
         bytes,
         &mut symbols,
     );
-    let rows = loaded.rows;
-    fill_rows(functions, d, t, &symbols, rows);
-    loaded.answer
+    match loaded {
+        Ok(loaded) => {
+            let n = loaded.summary.functions as usize;
+            fill_numbers(functions, object, &symbols[..n], loaded.rows);
+            Ok(loaded.summary)
+        }
+        Err(r) => {
+            functions.fill(0);
+            Err(r)
+        }
+    }
+}
+
+// The load of what was opened; where it was refused, all that is lent is cleared.
+#[tactic(auto, using(crate::proofs::Zeros::zeros_flat), unfolding(model::specs::Lent::zeroed))]
+pub fn load_flat_opened(
+    opened: Result<Object, Refusal>,
+    list: PatchList,
+    rewrite: bool,
+    sections: &mut [u64],
+    programs: &mut [u64],
+    functions: &mut [u64],
+    maps: &mut [u64],
+    relocations: &mut [u64],
+    bytes: &mut [u8],
+) -> Result<Summary, Refusal>
+    ensures { flat result sections.new programs.new functions.new maps.new relocations.new bytes.new
+        ≡ flat_of (length functions.old)
+        (outcome_in
+        (flat_room sections.old programs.old functions.old
+        maps.old relocations.old bytes.old)
+        (verdict_in opened.entry (patches_in list.entry) rewrite)) }
+{
+    match opened {
+        Ok(object) => load_flat_object(
+            object,
+            list,
+            rewrite,
+            sections,
+            programs,
+            functions,
+            maps,
+            relocations,
+            bytes,
+        ),
+        Err(r) => {
+            clear(sections, programs, maps, relocations, bytes);
+            functions.fill(0);
+            Err(r)
+        }
+    }
 }
 
 // The load call for deposits.
+#[tactic(auto, using(load_core::specs::Opened::deposit_outcome))]
 pub fn load_flat(
     d: &[u8],
     entries: &[u64],
@@ -77,14 +126,13 @@ pub fn load_flat(
         (flat_room sections.old programs.old functions.old
         maps.old relocations.old bytes.old)) }
 {
-    let opened = open(d);
-    let t = [0u32; 0];
-    load_flat_opened(
-        d,
-        &t,
-        opened,
+    let list = PatchList {
         entries,
-        patches,
+        bytes: patches,
+    };
+    load_flat_opened(
+        open(d),
+        list,
         rewrite,
         sections,
         programs,

@@ -1,111 +1,23 @@
 // The load of what was opened: the array for its functions' record numbers is as large as the count of symbols asks.
 #![tactic(auto)]
 
-ghost use Rattle.std.specs.Prelude.{◌≡◌, leb};
+ghost use Rattle.std.specs.Prelude.{◌≡◌};
 ghost use Rattle.model.specs.Lent.{lent, room_in, outcome, outcome_in};
-ghost use Rattle.load_object.specs.Done.{Open, symbol_count, verdict_in};
+ghost use Rattle.patch_checks.specs.Lists.{patches_in};
+ghost use Rattle.load_core.specs.Opened.{verdict_in};
 
+use load_fill::clear;
 use load_functions::load_functions;
 use model::{Function, Refusal, Summary};
-use object_view::View;
+use patch_checks::PatchList;
+use records::Object;
+use rows_functions::zero_row;
 
-fn is_small(opened: Result<View, Refusal>) -> bool
-    ensures { result ≡ leb (symbol_count opened) 64 }
-{
-    match opened {
-        Err(_) => true,
-        Ok(v) => v.symbols <= 64,
-    }
-}
-
-fn is_medium(opened: Result<View, Refusal>) -> bool
-    ensures { result ≡ leb (symbol_count opened) 2048 }
-{
-    match opened {
-        Err(_) => true,
-        Ok(v) => v.symbols <= 2048,
-    }
-}
-
-// For more than 64 symbols: 2,048 numbers where they are enough, else the largest array once no try is left.
-// It calls itself, so that the compiler gives each array a frame of its own: twice, since it sees through one call.
-fn load_more(
-    tries: u32,
-    d: &[u8],
-    t: &[u32],
-    opened: Result<View, Refusal>,
-    entries: &[u64],
-    patches: &[u8],
-    rewrite: bool,
-    sections: &mut [u64],
-    programs: &mut [u64],
-    functions: &mut [Function],
-    maps: &mut [u64],
-    relocations: &mut [u64],
-    bytes: &mut [u8],
-) -> Result<Summary, Refusal>
-    requires { Open d.now t.now opened }
-    ensures { outcome result (lent sections.new programs.new functions.new maps.new relocations.new bytes.new)
-        ≡ outcome_in (room_in
-        (lent sections.old programs.old functions.old maps.old relocations.old bytes.old))
-        (verdict_in d.now t.now opened entries.now patches.now rewrite) }
-{
-    if tries == 0 {
-        load_functions::<65536>(
-            d,
-            t,
-            opened,
-            entries,
-            patches,
-            rewrite,
-            sections,
-            programs,
-            functions,
-            maps,
-            relocations,
-            bytes,
-        )
-    } else if is_medium(opened) {
-        load_functions::<2048>(
-            d,
-            t,
-            opened,
-            entries,
-            patches,
-            rewrite,
-            sections,
-            programs,
-            functions,
-            maps,
-            relocations,
-            bytes,
-        )
-    } else {
-        load_more(
-            tries - 1,
-            d,
-            t,
-            opened,
-            entries,
-            patches,
-            rewrite,
-            sections,
-            programs,
-            functions,
-            maps,
-            relocations,
-            bytes,
-        )
-    }
-}
-
-// What was opened is loaded.
+// An object that was opened is loaded; where it was refused, all that is lent is cleared.
+#[tactic(auto, unfolding(model::specs::Lent::zeroed))]
 pub fn load_opened(
-    d: &[u8],
-    t: &[u32],
-    opened: Result<View, Refusal>,
-    entries: &[u64],
-    patches: &[u8],
+    opened: Result<Object, Refusal>,
+    list: PatchList,
     rewrite: bool,
     sections: &mut [u64],
     programs: &mut [u64],
@@ -114,42 +26,56 @@ pub fn load_opened(
     relocations: &mut [u64],
     bytes: &mut [u8],
 ) -> Result<Summary, Refusal>
-    requires { Open d.now t.now opened }
     ensures { outcome result (lent sections.new programs.new functions.new maps.new relocations.new bytes.new)
         ≡ outcome_in (room_in
         (lent sections.old programs.old functions.old maps.old relocations.old bytes.old))
-        (verdict_in d.now t.now opened entries.now patches.now rewrite) }
+        (verdict_in opened.entry (patches_in list.entry) rewrite) }
 {
-    if is_small(opened) {
-        load_functions::<64>(
-            d,
-            t,
-            opened,
-            entries,
-            patches,
-            rewrite,
-            sections,
-            programs,
-            functions,
-            maps,
-            relocations,
-            bytes,
-        )
-    } else {
-        load_more(
-            2,
-            d,
-            t,
-            opened,
-            entries,
-            patches,
-            rewrite,
-            sections,
-            programs,
-            functions,
-            maps,
-            relocations,
-            bytes,
-        )
+    match opened {
+        Err(r) => {
+            clear(sections, programs, maps, relocations, bytes);
+            functions.fill(zero_row());
+            Err(r)
+        }
+        Ok(object) => {
+            let symbols = object.records.view.symbols;
+            if symbols <= 64 {
+                load_functions::<64>(
+                    object,
+                    list,
+                    rewrite,
+                    sections,
+                    programs,
+                    functions,
+                    maps,
+                    relocations,
+                    bytes,
+                )
+            } else if symbols <= 2048 {
+                load_functions::<2048>(
+                    object,
+                    list,
+                    rewrite,
+                    sections,
+                    programs,
+                    functions,
+                    maps,
+                    relocations,
+                    bytes,
+                )
+            } else {
+                load_functions::<65536>(
+                    object,
+                    list,
+                    rewrite,
+                    sections,
+                    programs,
+                    functions,
+                    maps,
+                    relocations,
+                    bytes,
+                )
+            }
+        }
     }
 }

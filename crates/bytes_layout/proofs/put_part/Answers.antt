@@ -1,41 +1,26 @@
 -- `bytes_layout::put_part` meets its contract: what the numbers passed have lies in a row, and the next is laid behind it.
-use mathlib.Core.Path.{◌≡◌, refl, sym, ◌∙◌}
-use native.Mathlib.Nat.{add-zero}
-use native.Mathlib.Omega.{arith}
-use lib.ListN.{length}
-use Rattle.lists.specs.Slice.{put-none}
+use Rattle.std.specs.Prelude.{refl}
+use Rattle.std.proofs.Common.{arith}
 use Rattle.model.specs.Bytes.{each}
-use Rattle.bytes_layout.specs.Next.{next-room, next-end, next-laid}
+use Rattle.catalogue_laws.specs.Placed.{each_more}
+use Rattle.records.specs.Of.{of}
+use Rattle.bytes_layout.specs.Laid.{laid-room, laid-more, each-next}
 use Rattle.bytes_layout.specs.Listed.{part_of}
 use Rattle.bytes_layout.proofs.put_part.Goals as goal
 
-pub loop-k-init : goal.loop-k-init
+pub loop-j-init : goal.loop-j-init
 unfolding each
-loop-k-init c =
+loop-j-init c = record { reach = refl; room = omega (arith, c.requires.1); held = refl }
+
+pub put_one-at-requires : goal.put_one-at-requires
+put_one-at-requires c =
     let a = c.args in
-    (refl, sym (add-zero a.at), put-none a.at a.out.now)
+    (c.requires.0.1 c.loop-j.j-index (omega arith), laid-room _ _ (rw (each-next (of (part_of a.part) a.object.records) a.numbers.now c.loop-j.j-index (omega arith)) at c.loop-j.invariant))
 
-pub put_one-o-requires : goal.put_one-o-requires
-put_one-o-requires c =
-    let a = c.args in (
-      c.requires.0.2,
-      c.requires.0.3 c.loop-k.k (omega arith),
-      next-room (part_of a.part a.d.now a.t.now a.v) a.numbers.now a.at c.loop-k.k c.loop-k.o c.loop-k.invariant.1 a.n (length c.loop-k.out) (omega arith) (omega arith) (omega arith),
-    )
-
-pub loop-k-preserved : goal.loop-k-preserved
-loop-k-preserved c =
-    let a = c.args in
-    let f = part_of a.part a.d.now a.t.now a.v in
-    let p = c.put_one-o in
-    let room = next-room f a.numbers.now a.at c.loop-k.k c.loop-k.o c.loop-k.invariant.1 a.n (length a.out.now) (omega arith) (omega arith) (omega arith) in (
-      c.put_one-o.auto.out ∙ c.loop-k.invariant.0,
-      next-end f a.numbers.now a.at c.loop-k.k c.loop-k.o c.loop-k.invariant.1 p.result (omega arith) p.ensures.0,
-      next-laid f a.numbers.now a.at c.loop-k.k c.loop-k.o c.loop-k.invariant.1 p.result (omega arith) p.ensures.0 a.out.now c.loop-k.out _
-          (omega (arith, room)) c.loop-k.invariant.2 p.ensures.1,
-    )
-
-pub returns : goal.returns
-returns c =
-    let e : c.loop-k.k ≡ c.args.n = omega arith in
-    (c.loop-k.invariant.1 ∙ rw e, c.loop-k.invariant.2 ∙ rw e)
+pub loop-j-preserved : goal.loop-j-preserved
+loop-j-preserved c =
+    let f = of (part_of c.args.part) c.args.object.records in
+    let order = c.args.numbers.now in
+    let k = c.loop-j.j-index in
+    let e = c.put_one-at.ensures in
+    rw (each_more f order 0 k (omega arith)) (laid-more _ _ (rw (each-next f order k (omega arith)) at c.loop-j.invariant) e.0 e.1)

@@ -1,12 +1,11 @@
-use mathlib.Core.Path.{◌≡◌}
-use mathlib.Core.List.{◌++◌}
-use Prim.Native.Nat.{◌+◌}
-use lib.ListN.{length, take, drop}
+use Rattle.std.specs.Prelude.{take, drop}
 use Rattle.model.specs.Bytes.{each}
+use Rattle.records.specs.Of.{of}
+use Rattle.bytes_layout.specs.Laid.{Laid}
 use Rattle.bytes_layout.specs.Listed.{part_of}
 use Rattle.bytes_layout.proofs.put_part.Given as goal
 
-abbrev pub invariant-loop-k : goal.invariant-loop-k
-invariant-loop-k l =
-    (length l.out ≡ length l.initial.out) × (l.o ≡ l.at + length (each (part_of l.part l.d l.t l.v) (take l.k l.numbers)))
-    × (l.out ≡ take l.at l.initial.out ++ (each (part_of l.part l.d l.t l.v) (take l.k l.numbers) ++ drop l.o l.initial.out))
+abbrev pub invariant-loop-j : goal.invariant-loop-j
+invariant-loop-j l =
+    let f = of (part_of l.part) l.object.records in
+    Laid l.initial.out (each f (take l.j-index l.numbers)) (each f (drop l.j-index l.numbers)) l.at l.out

@@ -1,57 +1,38 @@
 -- `load_decision::decide_patches` meets its contract.
-use mathlib.Core.Path.{◌≡◌, sym, ap, ◌∙◌}
-use mathlib.Core.List.{List}
-use Prim.Native.Nat.{ℕ}
-use native.Mathlib.Omega.{arith}
-use lib.ListN.{length}
+use Rattle.std.specs.Prelude.{◌≡◌, length}
+use Rattle.std.proofs.Common.{sym, ap, ◌∙◌, arith}
+use Rattle.records.specs.Of.{of}
 use Rattle.object.specs.Checked.{checked_of}
 use Rattle.patch_symbols.specs.Search.{by_name}
 use Rattle.patch_checks.specs.Entries.{NamesFound, all_named}
-use Rattle.object.specs.View.{object_in}
-use Rattle.bytes_layout.specs.Parts.{catalogue}
-use Rattle.load_image.specs.Tables.{all-maps, maps-are}
-use Rattle.parse_tables.specs.Parsed.{lent_length}
-use Rattle.load_decision.specs.Patches.{no-entries, sited}
+use Rattle.patch_checks.specs.Checks.{Sited}
+use Rattle.bytes_layout.specs.Held.{all-maps-fit}
+use Rattle.load_image.specs.Tables.{maps-are}
+use Rattle.load_decision.specs.Patches.{no-entries, sited-maps}
 use borrow.Author.Rules.{rules}
 use Rattle.load_decision.proofs.decide_patches.Goals as goal
-use Rattle.load_decision.proofs.decide_patches.Goals.{After-longest_name-longest}
+use Rattle.load_decision.proofs.decide_patches.Goals.{After-maps_by_section}
 
-pub returns-then-entries-eq0 : goal.returns-then-entries-eq0
-returns-then-entries-eq0 c =
-    let a = c.args in
-    let e : length a.entries.now ≡ 0 = omega (arith, c.if-entries-eq0.true) in (
-      sym (ap checked_of (no-entries (object_in a.d.now a.t.now a.v) (catalogue a.d.now a.t.now a.v).maps a.entries.now a.patches.now e)),
-      record { named = λ p. absurd (omega (arith, e, p)); sited = λ p. absurd (omega (arith, e, p)) },
-    )
-
-pub by_name-requires : goal.by_name-requires
-by_name-requires c =
-    let a = c.args in
-    (omega (arith, c.requires.0.few-symbols), c.requires.5, lent_length a.by.now _ _ c.size-y.ensures.0 c.requires.6)
+pub returns-then-is_empty : goal.returns-then-is_empty
+returns-then-is_empty c =
+    let e : length c.args.list.entries.now ≡ 0 = grind arith in
+    (sym (ap checked_of (no-entries _ _ _ _ e)), record { named = λ p. absurd (omega arith); sited = λ p. absurd (omega arith) })
 
 pub maps_by_section-requires : goal.maps_by_section-requires
 maps_by_section-requires c =
-    let a = c.args in
-    (c.requires.0, c.requires.2, omega (arith, c.requires.3), search rules, all-maps a.d.now a.t.now a.v a.n a.maps.now c.requires.2 a.by.now c.requires.0 c.requires.1 c.requires.4)
+    let few = c.requires.2 in
+    (omega arith, search rules, all-maps-fit c.args.object.readable c.requires.0 c.requires.1)
 
 -- as many bytes of a name as the longest one of the list has
-named : (c : After-longest_name-longest) (order : List ℕ)
-    → (let a = c.args in order ≡ by_name a.d.now a.t.now a.v c.longest_name-longest.result → NamesFound a.d.now a.t.now a.v a.entries.now order)
-named c order e =
-    let a = c.args in
-    all_named a.d.now a.t.now a.v a.entries.now order (e ∙ ap (by_name a.d.now a.t.now a.v) c.longest_name-longest.ensures)
+named : (c : After-maps_by_section) → of NamesFound c.args.object.records c.args.list.entries.now c.by_name.new.symbols
+named c = all_named _ _ _ _ _ (c.by_name.ensures ∙ ap (of by_name c.args.object.records) c.longest_name-longest.ensures)
+
+sited : (c : After-maps_by_section) → of Sited c.args.object.records c.args.maps.now c.maps_by_section.new.by
+sited c = sited-maps c.args.object.readable c.requires.0 c.requires.1 _ _ c.maps_by_section.ensures
 
 pub patch_refusal-requires : goal.patch_refusal-requires
-patch_refusal-requires c =
-    let a = c.args in
-    (sited a.d.now a.t.now a.v a.maps.now a.n _ _ c.requires.0 c.requires.1 c.requires.2 c.requires.4 c.maps_by_section.ensures, named (goal.at.patch_refusal-requires c).After-longest_name-longest _ c.by_name.ensures)
+patch_refusal-requires c = (sited (goal.at.patch_refusal-requires c).After-maps_by_section, named (goal.at.patch_refusal-requires c).After-maps_by_section)
 
 pub returns : goal.returns
 returns c =
-    let a = c.args in (
-      c.patch_refusal.ensures ∙ rw (maps-are a.d.now a.t.now a.v a.n a.maps.now c.requires.2 c.requires.0 c.requires.1 c.requires.4),
-      record {
-        named = λ p. named (goal.at.returns c).After-longest_name-longest _ c.by_name.ensures;
-        sited = λ p. sited a.d.now a.t.now a.v a.maps.now a.n _ _ c.requires.0 c.requires.1 c.requires.2 c.requires.4 c.maps_by_section.ensures;
-      },
-    )
+    (c.patch_refusal.ensures ∙ rw (maps-are c.args.object.readable c.requires.1), record { named = λ p. named (goal.at.returns c).After-maps_by_section; sited = λ p. sited (goal.at.returns c).After-maps_by_section })

@@ -1,2 +1,0 @@
--- What the contracts of `load_numbers` cite.
-pub mod Loads
