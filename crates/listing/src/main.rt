@@ -1,85 +1,60 @@
 // Reads a deposit from standard input and writes its catalogue, or why it goes back.
 #![tactic(auto)]
 
-ghost use Rattle.std.specs.Prelude.{◌≡◌, ◌+◌, ◌*◌, ◌≤◌, length, take};
-ghost use Rattle.io.specs.Counts.{IsPrefixLen};
-ghost use Rattle.model.specs.FunctionNumbers.{flat_room};
-ghost use Rattle.model.specs.Listing.{too_long, listing_of};
+ghost use Rattle.std.specs.Prelude.{refl};
+ghost use Rattle.model.specs.Listing.{listing_of};
+ghost use Rattle.guarantees.specs.WordsOfDemand3.{Input};
+ghost use Rattle.listing_laws.specs.Text.{deposit-text};
 
-use input::{byte_room, number_room, read_full};
-use listing_text::{put_answer, put_refusal};
+use listed::{Listed, run};
 use load_numbers::load_flat;
-use model::{Refusal, SectionIndex, SymbolIndex};
-use std::io::Result;
+use model::{Refusal, Summary};
+use std::io;
 
-fn too_long() -> Refusal
-    ensures { result ≡ too_long }
-{
-    Refusal {
-        number: 1,
-        section: SectionIndex(0),
-        symbol: SymbolIndex(0),
-        entry: 0,
-    }
-}
+struct Deposit;
 
-// The text for deposit d into out; where it ends. `listing_elf` has its twin: each contract cites the definition of its own text.
-fn list(
-    d: &[u8],
-    sections: &mut [u64],
-    programs: &mut [u64],
-    functions: &mut [u64],
-    maps: &mut [u64],
-    relocations: &mut [u64],
-    bytes: &mut [u8],
-    out: &mut [u8],
-) -> usize
-    requires { length bytes.old + 10 * length programs.old + 11 * length functions.old + 3 * length maps.old + 71 ≤ length out.old }
-    ensures { IsPrefixLen result out.new
-        × (take result out.new
-        ≡ listing_of
-        (flat_room sections.old programs.old functions.old
-        maps.old relocations.old bytes.old)
-        d.now) }
-{
-    if 65536 < d.len() {
-        return put_refusal(out, 0, too_long());
+impl Listed for Deposit {
+    const MOST: usize = 65536;
+
+    const TOO_LONG: u32 = 1;
+
+    ghost MOST = { 65536 };
+
+    ghost TOO_LONG = { 1 };
+
+    ghost input = { Input.deposit };
+
+    ghost text = { listing_of };
+
+    ghost bytes = { λ d. refl };
+
+    ghost is = { deposit-text };
+
+    fn load(
+        d: &[u8],
+        sections: &mut [u64],
+        programs: &mut [u64],
+        functions: &mut [u64],
+        maps: &mut [u64],
+        relocations: &mut [u64],
+        bytes: &mut [u8],
+    ) -> Result<Summary, Refusal> {
+        load_flat(
+            d,
+            &[],
+            &[],
+            false,
+            sections,
+            programs,
+            functions,
+            maps,
+            relocations,
+            bytes,
+        )
     }
-    let answer = load_flat(
-        d,
-        &[],
-        &[],
-        false,
-        sections,
-        programs,
-        functions,
-        maps,
-        relocations,
-        bytes,
-    );
-    put_answer(out, 0, answer, programs, functions, maps, bytes)
 }
 
 // The room that is lent is what docs/CATALOGUE.md states, and one byte more than a deposit may have.
-fn main(rt: HostRuntime) -> Result<()> {
-    let mut d = byte_room::<65537>();
-    let n = read_full(&mut rt.reader(), &mut d)?;
-    let mut sections = number_room::<5416>();
-    let mut programs = number_room::<11368>();
-    let mut functions = number_room::<11368>();
-    let mut maps = number_room::<43848>();
-    let mut relocations = number_room::<16384>();
-    let mut bytes = byte_room::<524288>();
-    let mut out = byte_room::<1048576>();
-    let end = list(
-        &d[..n],
-        &mut sections,
-        &mut programs,
-        &mut functions,
-        &mut maps,
-        &mut relocations,
-        &mut bytes,
-        &mut out,
-    );
-    rt.write_all(&out[..end])
+fn main(rt: HostRuntime) -> io::Result<()> {
+    run::<Deposit, 65537, 5416, 11368, 11368, 43848, 16384, 524288, 1048576>(&rt)
 }

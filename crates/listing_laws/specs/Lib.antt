@@ -1,5 +1,4 @@
--- What the proofs of `listing` and `listing_elf` cite.
-pub mod Written
+-- What the proofs of `listed` and the programs above it cite.
 pub mod Numbers
 pub mod Loaded
 pub mod Bound

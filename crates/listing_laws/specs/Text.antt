@@ -1,18 +1,18 @@
 -- The text of a load that left its answer and its tables is the listing, and it has room.
-use Rattle.std.specs.Prelude.{◌≡◌, Bool, false, List, [], ℕ, ◌+◌, ◌*◌, ◌<◌, ◌≤◌, Err, Ok, Result}
+use Rattle.std.specs.Prelude.{◌≡◌, refl, Bool, false, cond, ltb, List, [], ℕ, ◌+◌, ◌*◌, ◌<◌, ◌≤◌, Err, Ok, Result}
 use Rattle.std.proofs.Common.{sym, ◌∙◌, arith, lt-ltb, le-ltb}
 use Rattle.std.proofs.Math.Path.{ap}
 use Rattle.std.proofs.Math.ListN.{length}
 use Rattle.model.specs.declared.Summary.{Summary}
 use Rattle.model.specs.declared.Refusal.{Refusal}
-use Rattle.model.specs.Refusals.{no_section, no_symbol}
 use Rattle.model.specs.Bytes.{AllBytes}
 use Rattle.model.specs.Catalogue.{Catalogue}
-use Rattle.model.specs.Lent.{Lent, load_of, summary_of, bytes_of}
+use Rattle.model.specs.Lent.{Lent, summary_of, bytes_of}
 use Rattle.model.specs.declared.Room.{Room}
-use Rattle.model.specs.Listing.{answer_text, catalogue_text, refusal_text, too_long, text_of, listing_of}
-use Rattle.model.specs.ElfRefusals.{load_elf_of, file_listing_of}
+use Rattle.model.specs.Listing.{answer_text, catalogue_text, refusal_text, text_of, listing_of}
+use Rattle.model.specs.ElfRefusals.{file_listing_of}
 use Rattle.model.specs.ReadBack.{read_back}
+use Rattle.object_view.specs.Refused.{without_place}
 use Rattle.guarantees.specs.WordsOfDemand3.{Input, input_bytes, outcome_on}
 use Rattle.guarantees.specs.LentBack.{given_is}
 use Rattle.guarantees.proofs.LentBack.{lent-read-back}
@@ -55,22 +55,24 @@ module _ (x : Input) (entries patches : List ℕ) (on : Bool) (room : Room) wher
     text-most (Ok h) e = rw (sym e) (omega (arith, accepted-most h (sym e), within x entries patches on room h (sym e)))
     text-most (Err q) e = rw (sym e) (omega (arith, refusal-most q))
 
-pub long-text : (room : Room) (d : List ℕ) → 65536 < length d → listing_of room d ≡ refusal_text too_long
-unfolding listing_of
-long-text room d h = rw (lt-ltb _ _ h)
+-- ---- an input of so many bytes at most; a longer one goes back with a number
 
-pub short-text : (room : Room) (d : List ℕ) → length d ≤ 65536 → listing_of room d ≡ text_of (load_of d [] [] false room)
-unfolding listing_of
-short-text room d h = rw (le-ltb _ _ h)
+unfoldable pub text_within : ℕ → ℕ → Input → Room → List ℕ
+text_within most number x room = cond (ltb most (length (input_bytes x))) (refusal_text (without_place number)) (text_of (outcome_on x [] [] false room))
 
--- number 26, of the file
-abbrev pub file_too_long : Refusal
-file_too_long = record { number = 26; section = no_section; symbol = no_symbol; entry = 0 }
+module _ (most number : ℕ) (x : Input) (room : Room) where
+  pub long-text : most < length (input_bytes x) → text_within most number x room ≡ refusal_text (without_place number)
+  unfolding text_within
+  long-text h = rw (lt-ltb _ _ h)
 
-pub long-file : (most : ℕ) (room : Room) (f : List ℕ) → most < length f → file_listing_of most room f ≡ refusal_text file_too_long
-unfolding file_listing_of
-long-file most room f h = rw (lt-ltb _ _ h)
+  pub short-text : length (input_bytes x) ≤ most → text_within most number x room ≡ text_of (outcome_on x [] [] false room)
+  unfolding text_within
+  short-text h = rw (le-ltb _ _ h)
 
-pub short-file : (most : ℕ) (room : Room) (f : List ℕ) → length f ≤ most → file_listing_of most room f ≡ text_of (load_elf_of f [] [] false room)
-unfolding file_listing_of
-short-file most room f h = rw (le-ltb _ _ h)
+pub deposit-text : (room : Room) (d : List ℕ) → listing_of room d ≡ text_within 65536 1 (Input.deposit d) room
+unfolding listing_of text_within
+deposit-text room d = refl
+
+pub file-text : (room : Room) (f : List ℕ) → file_listing_of 1048576 room f ≡ text_within 1048576 26 (Input.file f) room
+unfolding file_listing_of text_within
+file-text room f = refl

@@ -1,7 +1,5 @@
 -- What the contracts of `listing_text` cite, and the laws of text that is laid.
-pub mod Laid
 pub mod Spans
-pub mod Decimals
 pub mod Variants
 pub mod Flat
 pub mod Rows

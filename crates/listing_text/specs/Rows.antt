@@ -4,7 +4,7 @@ use Rattle.std.proofs.Common.{sym, ap, ◌∙◌, append-nil, zero-mul, suc-mul,
 use Rattle.std.proofs.Math.Nat.{mul-le-mul_right}
 use Rattle.model.specs.Bytes.{each, records, part}
 use Rattle.catalogue_laws.specs.Numbers.{each_append}
-use Rattle.listing_text.specs.Laid.{Laid, then, same_text}
+use Rattle.text.specs.Pushed.{pushed, then, same_text}
 
 records-more : {A : Type 0} (f : List ℕ → A) (w k : ℕ) (s : List ℕ) → records f w (suc k) s ≡ records f w k s ++ (f (part s (k * w) w) ∷ [])
 unfolding records
@@ -14,14 +14,14 @@ records-more f w (suc k) s =
     ap (λ l. f (take w s) ∷ l) (records-more f w k (drop w s) ∙ rw (drop-drop (k * w) w s, e))
 
 -- one line more
-pub row_laid : {A : Type 0} (line : A → List ℕ) (read : List ℕ → A) (w k p : ℕ) (s : List ℕ) {at : ℕ} {t u v : List ℕ} {o q : ℕ} → at ≤ length t → p ≡ k * w
-    → Laid at (each line (records read w k s)) t o u → Laid o (line (read (part s p w))) u q v → Laid at (each line (records read w (k + 1) s)) t q v
+pub row_put : {A : Type 0} (line : A → List ℕ) (read : List ℕ → A) (n w k : ℕ) (s old : List ℕ) {u v : List ℕ}
+    → u ≡ pushed n old (each line (records read w k s)) → v ≡ pushed n u (line (read (part s (k * w) w))) → v ≡ pushed n old (each line (records read w (k + 1) s))
 unfolding each
-row_laid line read w k p s h e a b =
-    let m : each line (records read w k s) ++ line (read (part s p w)) ≡ each line (records read w (k + 1) s) =
-    sym (rw (add-one, records-more read w k s, each_append line (records read w k s) (read (part s (k * w) w) ∷ []), append-nil, e))
+row_put line read n w k s old a b =
+    let m : each line (records read w k s) ++ line (read (part s (k * w) w)) ≡ each line (records read w (k + 1) s) =
+    sym (rw (add-one, records-more read w k s, each_append line (records read w k s) (read (part s (k * w) w) ∷ []), append-nil))
     in
-    same_text m (then h a b)
+    same_text n old m (then n old (each line (records read w k s)) (line (read (part s (k * w) w))) a b)
 
 module _ (w k : ℕ) where
   -- where n rows have room and k of them are passed, one more is there

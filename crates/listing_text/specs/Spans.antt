@@ -1,12 +1,21 @@
 -- What of the n bytes from a place on lies in a list.
 use Rattle.std.specs.Prelude.{◌≡◌, Bool, true, false, List, ltb, length, drop}
 use Rattle.std.proofs.Math.Path.{refl, ap}
-use Rattle.std.proofs.Common.{sym, ◌∙◌, ltb-true, ltb-false, drop_of_length-le}
+use Rattle.std.proofs.Common.{sym, ◌∙◌, take_all, ltb-true, ltb-false, drop_of_length-le}
 use Prim.Native.Nat.{ℕ, ◌<◌, ◌≤◌, min}
 use native.Mathlib.Omega.{arith}
 use Rattle.std.proofs.Math.ListN.{take}
 use Rattle.model.specs.Bytes.{part}
-use Rattle.listing_text.specs.Laid.{take-least}
+
+take-least : (n : ℕ) (l : List ℕ) → take (min n (length l)) l ≡ take n l
+take-least n l = go (ltb n (length l)) refl
+  where
+    go : (b : Bool) → ltb n (length l) ≡ b → take (min n (length l)) l ≡ take n l
+    go true e = let h : n < length l = ltb-true _ _ e in let k : min n (length l) ≡ n = omega arith in rw k
+    go false e =
+        let h : length l ≤ n = ltb-false _ _ e in
+        let k : length l ≤ min n (length l) = omega arith in
+        take_all (min n (length l)) l k ∙ sym (take_all n l h)
 
 module _ (b : List ℕ) (from n : ℕ) where
   start-part : (t : Bool) → ltb (length b) from ≡ t → part b (min from (length b)) n ≡ part b from n

@@ -1,15 +1,16 @@
-// The listing's text, laid behind what a lent buffer has, as far as there is room.
+// The listing's text, put behind what a text has, as far as it has room.
 #![tactic(auto)]
 
-ghost use Rattle.std.specs.Prelude.{List, ℕ, ◌≡◌, ◌∷◌, ◌+◌, ◌*◌, ◌<◌, ◌≤◌, length, take};
+ghost use Rattle.std.specs.Prelude.{List, ℕ, ◌≡◌, ◌∷◌, ◌+◌, ◌^◌, ◌*◌, ◌<◌, ◌≤◌, length, take};
 ghost use Rattle.model.specs.Bytes.{each, records, part};
 ghost use Rattle.model.specs.Listing.{decimal, variant_name, version_text, program_line, function_line, map_line, refusal_text};
 ghost use Rattle.model.specs.ReadBack.{program_from, program_read, map_read};
-ghost use Rattle.listing_text.specs.Laid.{Laid};
+ghost use Rattle.text.specs.Pushed.{pushed};
 ghost use Rattle.listing_text.specs.Variants.{variant_row};
 ghost use Rattle.listing_text.specs.Flat.{function_from, top_text, flat_text, flat_answer, RowsFit, AnswerFits};
 
 use model::{Refusal, Summary};
+use text::Text;
 
 // The variants' names in the order of their numbers, and where each begins.
 const VARIANTS: [u8; 275] = *b"\
@@ -49,26 +50,6 @@ const STARTS: [usize; 31] = [
     203, 208, 221, 230, 238, 249, 259, 271, 275,
 ];
 
-// s behind the first `at` bytes; where it ends.
-fn put(out: &mut [u8], at: usize, s: &[u8]) -> usize
-    requires { at ≤ length out.old }
-    ensures { Laid at s.now out.old result out.new }
-{
-    let n = s.len().min(out.len() - at);
-    let e = at + n;
-    out[at..e].copy_from_slice(&s[..n]);
-    e
-}
-
-fn put_decimal(out: &mut [u8], at: usize, n: u64) -> usize
-    requires { at ≤ length out.old }
-    ensures { Laid at (decimal n) out.old result out.new }
-{
-    let mut digits = [0u8; 20];
-    let k = io::decimal(n, &mut digits);
-    put(out, at, &digits[..k])
-}
-
 // What of the n bytes from `from` on lies in b.
 fn inside(b: &[u8], from: u64, n: u64) -> &[u8]
     ensures { result.now ≡ part b.now from n }
@@ -77,11 +58,10 @@ fn inside(b: &[u8], from: u64, n: u64) -> &[u8]
     &rest[..(n as usize).min(rest.len())]
 }
 
-fn put_part(out: &mut [u8], at: usize, b: &[u8], from: u64, n: u64) -> usize
-    requires { at ≤ length out.old }
-    ensures { Laid at (part b.now from n) out.old result out.new }
+fn put_part<const N: usize>(text: &mut Text<N>, b: &[u8], from: u64, n: u64)
+    ensures { text.new ≡ pushed N text.old (part b.now from n) }
 {
-    put(out, at, inside(b, from, n))
+    text.push(inside(b, from, n));
 }
 
 // Past the last number it is the first.
@@ -92,179 +72,169 @@ fn variant(number: u64) -> usize
     if number < 30 { number as usize } else { 0 }
 }
 
-fn put_variant(out: &mut [u8], at: usize, number: u64) -> usize
-    requires { at ≤ length out.old }
-    ensures { Laid at (variant_name (program_from number 0 0)) out.old result out.new }
+fn put_variant<const N: usize>(text: &mut Text<N>, number: u64)
+    ensures { text.new ≡ pushed N text.old (variant_name (program_from number 0 0)) }
 {
     let i = variant(number);
     let start = STARTS[i];
     let end = STARTS[i + 1];
-    put(out, at, &VARIANTS[start..end])
+    text.push(&VARIANTS[start..end]);
 }
 
 // A space and the number.
-fn put_number(out: &mut [u8], at: usize, n: u64) -> usize
-    requires { at ≤ length out.old }
-    ensures { Laid at (32 ∷ decimal n) out.old result out.new }
+fn put_number<const N: usize>(text: &mut Text<N>, n: u64)
+    ensures { text.new ≡ pushed N text.old (32 ∷ decimal n) }
 {
-    let o = put(out, at, b" ");
-    put_decimal(out, o, n)
+    text.push(b" ");
+    text.push_number(n);
 }
 
 // A table with rows of WIDTH numbers, each of which gives a line.
-trait Table {
+trait Table<const N: usize> {
     ghost WIDTH: { ℕ };
 
     ghost line: { List ℕ → List ℕ → List ℕ };
 
     const WIDTH: usize;
 
-    fn put_line(out: &mut [u8], at: usize, bytes: &[u8], row: &[u64]) -> usize
-        requires { (at ≤ length out.old) × (length row.now ≡ WIDTH) }
-        ensures { Laid at (line bytes.now row.now) out.old result out.new };
+    fn put_line(text: &mut Text<N>, bytes: &[u8], row: &[u64])
+        requires { length row.now ≡ WIDTH }
+        ensures { text.new ≡ pushed N text.old (line bytes.now row.now) };
 }
 
 struct Programs;
 
-impl Table for Programs {
+impl<const N: usize> Table<N> for Programs {
     ghost WIDTH = { 7 };
 
     ghost line = { λ b r. program_line (program_read b r) };
 
     const WIDTH: usize = 7;
 
-    fn put_line(out: &mut [u8], at: usize, bytes: &[u8], row: &[u64]) -> usize {
-        let mut o = put(out, at, b"program ");
-        o = put_part(out, o, bytes, row[0], row[1]);
-        o = put(out, o, b" ");
-        o = put_variant(out, o, row[2]);
-        o = put_number(out, o, row[5]);
-        o = put_number(out, o, row[6]);
-        put(out, o, b"\n")
+    fn put_line(text: &mut Text<N>, bytes: &[u8], row: &[u64]) {
+        text.push(b"program ");
+        put_part(text, bytes, row[0], row[1]);
+        text.push(b" ");
+        put_variant(text, row[2]);
+        put_number(text, row[5]);
+        put_number(text, row[6]);
+        text.push(b"\n");
     }
 }
 
 struct Functions;
 
-impl Table for Functions {
+impl<const N: usize> Table<N> for Functions {
     ghost WIDTH = { 7 };
 
     ghost line = { λ b r. function_line (function_from b r) };
 
     const WIDTH: usize = 7;
 
-    fn put_line(out: &mut [u8], at: usize, bytes: &[u8], row: &[u64]) -> usize {
-        let mut o = put(out, at, b"function");
-        o = put_number(out, o, row[0]);
-        o = put_number(out, o, row[1]);
-        o = put_number(out, o, row[6] / 8);
-        o = put(out, o, b" ");
-        o = put_part(out, o, bytes, row[3], row[4]);
-        put(out, o, b"\n")
+    fn put_line(text: &mut Text<N>, bytes: &[u8], row: &[u64]) {
+        text.push(b"function");
+        put_number(text, row[0]);
+        put_number(text, row[1]);
+        put_number(text, row[6] / 8);
+        text.push(b" ");
+        put_part(text, bytes, row[3], row[4]);
+        text.push(b"\n");
     }
 }
 
 struct Maps;
 
-impl Table for Maps {
+impl<const N: usize> Table<N> for Maps {
     ghost WIDTH = { 27 };
 
     ghost line = { λ b r. map_line (map_read b r) };
 
     const WIDTH: usize = 27;
 
-    fn put_line(out: &mut [u8], at: usize, bytes: &[u8], row: &[u64]) -> usize {
-        let mut o = put(out, at, b"map ");
-        o = put_part(out, o, bytes, row[0], row[1]);
-        o = put_number(out, o, row[2]);
-        o = put_number(out, o, row[9]);
-        o = put_number(out, o, inside(bytes, row[5], row[6]).len() as u64);
-        put(out, o, b"\n")
+    fn put_line(text: &mut Text<N>, bytes: &[u8], row: &[u64]) {
+        text.push(b"map ");
+        put_part(text, bytes, row[0], row[1]);
+        put_number(text, row[2]);
+        put_number(text, row[9]);
+        put_number(text, inside(bytes, row[5], row[6]).len() as u64);
+        text.push(b"\n");
     }
 }
 
 // The lines of the first n rows.
-fn put_rows<T: Table>(out: &mut [u8], at: usize, bytes: &[u8], rows: &[u64], n: u64) -> usize
-    requires { (at ≤ length out.old) × (n * T.WIDTH ≤ length rows.now) }
-    ensures { Laid at (each (T.line bytes.now) (records (λ r. r) T.WIDTH n rows.now)) out.old result out.new }
+fn put_rows<T: Table<N>, const N: usize>(text: &mut Text<N>, bytes: &[u8], rows: &[u64], n: u64)
+    requires { (N < 2 ^ 62) × (n * T.WIDTH ≤ length rows.now) }
+    ensures { text.new ≡ pushed N text.old (each (T.line bytes.now) (records (λ r. r) T.WIDTH n rows.now)) }
 {
-    let mut o = at;
     let mut rest = rows;
     for _ in 0..n {
         let (row, behind) = rest.split_at(T::WIDTH);
-        o = T::put_line(out, o, bytes, row);
+        T::put_line(text, bytes, row);
         rest = behind;
     }
-    o
 }
 
-fn put_version(out: &mut [u8], at: usize, v: Option<u32>) -> usize
-    requires { at ≤ length out.old }
-    ensures { Laid at (version_text v) out.old result out.new }
+fn put_version<const N: usize>(text: &mut Text<N>, v: Option<u32>)
+    ensures { text.new ≡ pushed N text.old (version_text v) }
 {
     match v {
-        None => put(out, at, b"any"),
-        Some(n) => put_decimal(out, at, u64::from(n)),
+        None => text.push(b"any"),
+        Some(n) => text.push_number(u64::from(n)),
     }
 }
 
 // The lines of the licence and the version.
-fn put_top(out: &mut [u8], at: usize, bytes: &[u8], license: u64, version: Option<u32>) -> usize
-    requires { at ≤ length out.old }
-    ensures { Laid at (top_text (take license bytes.now) version) out.old result out.new }
+fn put_top<const N: usize>(text: &mut Text<N>, bytes: &[u8], license: u64, version: Option<u32>)
+    ensures { text.new ≡ pushed N text.old (top_text (take license bytes.now) version) }
 {
-    let mut o = put(out, at, b"license ");
-    o = put_part(out, o, bytes, 0, license);
-    o = put(out, o, b"\nversion ");
-    o = put_version(out, o, version);
-    put(out, o, b"\n")
+    text.push(b"license ");
+    put_part(text, bytes, 0, license);
+    text.push(b"\nversion ");
+    put_version(text, version);
+    text.push(b"\n");
 }
 
-fn put_catalogue(
-    out: &mut [u8],
-    at: usize,
+fn put_catalogue<const N: usize>(
+    text: &mut Text<N>,
     h: Summary,
     programs: &[u64],
     functions: &[u64],
     maps: &[u64],
     bytes: &[u8],
-) -> usize
-    requires { (at ≤ length out.old) × RowsFit h programs.now functions.now maps.now }
-    ensures { Laid at (flat_text h programs.now functions.now maps.now bytes.now) out.old result out.new }
+)
+    requires { (N < 2 ^ 62) × RowsFit h programs.now functions.now maps.now }
+    ensures { text.new ≡ pushed N text.old (flat_text h programs.now functions.now maps.now bytes.now) }
 {
-    let mut o = put_top(out, at, bytes, h.license, h.version);
-    o = put_rows::<Programs>(out, o, bytes, programs, h.programs);
-    o = put_rows::<Functions>(out, o, bytes, functions, h.functions);
-    put_rows::<Maps>(out, o, bytes, maps, h.maps)
+    put_top(text, bytes, h.license, h.version);
+    put_rows::<Programs, N>(text, bytes, programs, h.programs);
+    put_rows::<Functions, N>(text, bytes, functions, h.functions);
+    put_rows::<Maps, N>(text, bytes, maps, h.maps);
 }
 
-pub fn put_refusal(out: &mut [u8], at: usize, r: Refusal) -> usize
-    requires { at ≤ length out.old }
-    ensures { Laid at (refusal_text r) out.old result out.new }
+pub fn push_refusal<const N: usize>(text: &mut Text<N>, r: Refusal)
+    ensures { text.new ≡ pushed N text.old (refusal_text r) }
 {
-    let mut o = put(out, at, b"refused");
-    o = put_number(out, o, u64::from(r.number));
-    o = put_number(out, o, u64::from(r.section.0));
-    o = put_number(out, o, u64::from(r.symbol.0));
-    put(out, o, b"\n")
+    text.push(b"refused");
+    put_number(text, u64::from(r.number));
+    put_number(text, u64::from(r.section.0));
+    put_number(text, u64::from(r.symbol.0));
+    text.push(b"\n");
 }
 
 // The text of an answer and of the tables that came with it; functions are seven numbers each.
-pub fn put_answer(
-    out: &mut [u8],
-    at: usize,
+pub fn push_answer<const N: usize>(
+    text: &mut Text<N>,
     answer: Result<Summary, Refusal>,
     programs: &[u64],
     functions: &[u64],
     maps: &[u64],
     bytes: &[u8],
-) -> usize
-    requires { (at ≤ length out.old) × AnswerFits answer programs.now functions.now maps.now }
-    ensures { Laid at (flat_answer answer programs.now functions.now maps.now bytes.now) out.old result
-        out.new }
+)
+    requires { (N < 2 ^ 62) × AnswerFits answer programs.now functions.now maps.now }
+    ensures { text.new ≡ pushed N text.old (flat_answer answer programs.now functions.now maps.now bytes.now) }
 {
     match answer {
-        Ok(h) => put_catalogue(out, at, h, programs, functions, maps, bytes),
-        Err(r) => put_refusal(out, at, r),
+        Ok(h) => put_catalogue(text, h, programs, functions, maps, bytes),
+        Err(r) => push_refusal(text, r),
     }
 }

@@ -93,7 +93,6 @@ fn replay(
         relocations,
         bytes,
     );
-    let mut out = byte_room::<262144>();
     tell(
         rt,
         name,
@@ -104,7 +103,6 @@ fn replay(
         maps,
         relocations,
         bytes,
-        &mut out,
     )
 }
 
@@ -215,6 +213,7 @@ fn run(
     ensures { IfOk result (λ n. n ≤ length text.now) }
 {
     let mut rest = text;
+    // A line is as long as its end is far, so no range counts the lines.
     while let Some(n) = rest.iter().position(|c| *c == b'\n') {
         run_line(rt, &rest[..n], d, entries, patches)?;
         rest = &rest[n + 1..];
@@ -244,10 +243,7 @@ fn run_part(
     ensures { IfOk result (λ n. n ≤ length text.new) }
 {
     let left = run(rt, &text[..end], d, entries, patches)?;
-    let at = end - left;
-    for i in 0..left {
-        text[i] = text[at + i];
-    }
+    text.copy_within(end - left..end, 0);
     Ok(left)
 }
 

@@ -7,7 +7,8 @@
 
 ghost use Rattle.std.specs.Prelude.{◌<◌, ◌≤◌, length};
 
-use model::{Endianness, Refusal, Summary};
+use model::{Refusal, Summary};
+use text::Text;
 
 // ---- reading
 
@@ -66,7 +67,10 @@ fn unpack(s: &[u8], out: &mut [u8]) -> usize {
             n = repeat(out, n, more);
             i += digits + 2;
         } else {
-            n = put(out, n, ((digit(s[i]) * 16 + digit(s[i + 1])) % 256) as u8);
+            if let Some(b) = out.get_mut(n) {
+                *b = ((digit(s[i]) * 16 + digit(s[i + 1])) % 256) as u8;
+                n += 1;
+            }
             i += 2;
         }
     }
@@ -87,159 +91,109 @@ fn numbers(s: &[u8], out: &mut [u64]) -> usize {
     out.len()
 }
 
-// ---- writing: text goes into `out` from `at` on, as far as there is room, and the answer is where it ends
-
-fn put(out: &mut [u8], at: usize, b: u8) -> usize {
-    if at < out.len() {
-        out[at] = b;
-        return at + 1;
-    }
-    at
-}
-
-fn put_text(out: &mut [u8], at: usize, s: &[u8]) -> usize {
-    let mut end = at;
-    for b in s {
-        end = put(out, end, *b);
-    }
-    end
-}
-
-fn put_number(out: &mut [u8], at: usize, n: u64) -> usize {
-    let mut digits = [0u8; 20];
-    let k = io::decimal(n, &mut digits);
-    put_text(out, at, &digits[..k])
-}
+// ---- writing
 
 // A space, and the number.
-fn put_next(out: &mut [u8], at: usize, n: u64) -> usize {
-    let end = put(out, at, b' ');
-    put_number(out, end, n)
+fn put_next<const N: usize>(text: &mut Text<N>, n: u64) {
+    text.push(b" ");
+    text.push_number(n);
 }
 
-fn put_hex(out: &mut [u8], at: usize, b: u8) -> usize {
+fn put_hex<const N: usize>(text: &mut Text<N>, b: u8) {
     let digits = b"0123456789abcdef";
-    let end = put(out, at, digits[usize::from(b / 16)]);
-    put(out, end, digits[usize::from(b % 16)])
+    text.push(&[digits[usize::from(b / 16)], digits[usize::from(b % 16)]]);
 }
 
 // How many more there are of a value, if any.
-fn put_more(out: &mut [u8], at: usize, n: usize) -> usize {
-    if n == 0 {
-        return at;
+fn put_more<const N: usize>(text: &mut Text<N>, n: usize) {
+    if n > 0 {
+        text.push(b"(");
+        text.push_number(n as u64);
+        text.push(b")");
     }
-    let start = put(out, at, b'(');
-    let end = put_number(out, start, n as u64);
-    put(out, end, b')')
 }
 
-fn put_bytes(out: &mut [u8], at: usize, s: &[u8]) -> usize {
-    let mut end = put_text(out, at, b"bytes ");
+fn put_bytes<const N: usize>(text: &mut Text<N>, s: &[u8]) {
+    text.push(b"bytes ");
     for run in s.chunk_by(|a, b| a == b) {
         if let Some((first, more)) = run.split_first() {
-            end = put_hex(out, end, *first);
-            end = put_more(out, end, more.len());
+            put_hex(text, *first);
+            put_more(text, more.len());
         }
     }
-    put(out, end, b'\n')
+    text.push(b"\n");
 }
 
-fn put_table(out: &mut [u8], at: usize, name: &[u8], s: &[u64]) -> usize {
-    let mut end = put_text(out, at, name);
+fn put_table<const N: usize>(text: &mut Text<N>, name: &[u8], s: &[u64]) {
+    text.push(name);
     for run in s.chunk_by(|a, b| a == b) {
         if let Some((first, more)) = run.split_first() {
-            end = put_next(out, end, *first);
-            end = put_more(out, end, more.len());
+            put_next(text, *first);
+            put_more(text, more.len());
         }
     }
-    put(out, end, b'\n')
+    text.push(b"\n");
 }
 
-fn order_number(o: Endianness) -> u64 {
-    match o {
-        Endianness::Little => 0,
-        Endianness::Big => 1,
-    }
-}
-
-fn put_version(out: &mut [u8], at: usize, v: Option<u32>) -> usize {
+fn put_version<const N: usize>(text: &mut Text<N>, v: Option<u32>) {
     match v {
-        None => put_text(out, at, b" any"),
-        Some(n) => put_next(out, at, u64::from(n)),
+        None => text.push(b" any"),
+        Some(n) => put_next(text, u64::from(n)),
     }
 }
 
-fn put_counts(out: &mut [u8], at: usize, s: Summary) -> usize {
-    let mut end = put_next(out, at, s.sections);
-    end = put_next(out, end, s.programs);
-    end = put_next(out, end, s.functions);
-    end = put_next(out, end, s.maps);
-    end = put_next(out, end, s.relocations);
-    put_next(out, end, s.bytes)
+fn put_summary<const N: usize>(text: &mut Text<N>, s: Summary) {
+    text.push(b" accepted");
+    put_next(text, s.order as u64);
+    put_version(text, s.version);
+    for n in [
+        s.license,
+        s.sections,
+        s.programs,
+        s.functions,
+        s.maps,
+        s.relocations,
+        s.bytes,
+    ] {
+        put_next(text, n);
+    }
 }
 
-fn put_summary(out: &mut [u8], at: usize, s: Summary) -> usize {
-    let mut end = put_text(out, at, b" accepted");
-    end = put_next(out, end, order_number(s.order));
-    end = put_version(out, end, s.version);
-    end = put_next(out, end, s.license);
-    put_counts(out, end, s)
+fn put_refusal<const N: usize>(text: &mut Text<N>, r: Refusal) {
+    text.push(b" refused");
+    put_next(text, u64::from(r.number));
+    put_next(text, u64::from(r.section.0));
+    put_next(text, u64::from(r.symbol.0));
+    put_next(text, r.entry);
 }
 
-fn put_refusal(out: &mut [u8], at: usize, r: Refusal) -> usize {
-    let mut end = put_text(out, at, b" refused");
-    end = put_next(out, end, u64::from(r.number));
-    end = put_next(out, end, u64::from(r.section.0));
-    end = put_next(out, end, u64::from(r.symbol.0));
-    put_next(out, end, r.entry)
-}
-
-fn put_answer(out: &mut [u8], at: usize, a: Result<Summary, Refusal>) -> usize {
+fn put_answer<const N: usize>(text: &mut Text<N>, a: Result<Summary, Refusal>) {
     match a {
-        Ok(s) => put_summary(out, at, s),
-        Err(r) => put_refusal(out, at, r),
+        Ok(s) => put_summary(text, s),
+        Err(r) => put_refusal(text, r),
     }
 }
 
-fn zeros(s: &[u64]) -> bool {
-    s.iter().all(|n| *n == 0)
-}
-
-fn all_zero(
+fn put_lent<const N: usize>(
+    text: &mut Text<N>,
     sections: &[u64],
     programs: &[u64],
     functions: &[u64],
     maps: &[u64],
     relocations: &[u64],
     bytes: &[u8],
-) -> bool {
-    zeros(sections)
-        && zeros(programs)
-        && zeros(functions)
-        && zeros(maps)
-        && zeros(relocations)
-        && bytes.iter().all(|b| *b == 0)
-}
-
-fn put_lent(
-    out: &mut [u8],
-    at: usize,
-    sections: &[u64],
-    programs: &[u64],
-    functions: &[u64],
-    maps: &[u64],
-    relocations: &[u64],
-    bytes: &[u8],
-) -> usize {
-    if all_zero(sections, programs, functions, maps, relocations, bytes) {
-        return put_text(out, at, b"zeros\n");
+) {
+    let tables = [sections, programs, functions, maps, relocations];
+    if tables.iter().all(|t| t.iter().all(|n| *n == 0)) && bytes.iter().all(|b| *b == 0) {
+        text.push(b"zeros\n");
+        return;
     }
-    let mut end = put_table(out, at, b"sections", sections);
-    end = put_table(out, end, b"programs", programs);
-    end = put_table(out, end, b"functions", functions);
-    end = put_table(out, end, b"maps", maps);
-    end = put_table(out, end, b"relocations", relocations);
-    put_bytes(out, end, bytes)
+    put_table(text, b"sections", sections);
+    put_table(text, b"programs", programs);
+    put_table(text, b"functions", functions);
+    put_table(text, b"maps", maps);
+    put_table(text, b"relocations", relocations);
+    put_bytes(text, bytes);
 }
 
 // Writes the answer and what is lent behind the name.
@@ -253,14 +207,13 @@ pub fn tell(
     maps: &[u64],
     relocations: &[u64],
     bytes: &[u8],
-    out: &mut [u8],
 ) -> std::io::Result<()> {
-    let mut end = put_text(out, 0, name);
-    end = put_answer(out, end, answer);
-    end = put(out, end, b'\n');
-    end = put_lent(
-        out,
-        end,
+    let mut text = Text::<262144>::new();
+    text.push(name);
+    put_answer(&mut text, answer);
+    text.push(b"\n");
+    put_lent(
+        &mut text,
         sections,
         programs,
         functions,
@@ -268,7 +221,7 @@ pub fn tell(
         relocations,
         bytes,
     );
-    rt.write_all(&out[..end.min(out.len())])
+    rt.write_all(text.as_bytes())
 }
 
 // ---- a case

@@ -11,9 +11,8 @@
 ghost use Rattle.std.specs.Prelude.{◌≡◌, ◌-◌, ◌^◌, ◌<◌, ◌≤◌, length};
 
 use input::{byte_room, read_full};
-use model::{Endianness, Head, Refusal};
-use object_view::View;
-use records::{end_of, names_at, relocations_at, symbols_at};
+use model::{Head, Refusal};
+use records::{Object, end_of, names_at, relocations_at, symbols_at};
 use std::io;
 use std::num::wrapping_add_u32;
 
@@ -58,11 +57,9 @@ fn put(d: &mut [u8], p: usize, v: u8) {
 fn put32(d: &mut [u8], p: usize, v: u32)
     requires { p < 2 ^ 60 }
 {
-    let b = v.to_le_bytes();
-    put(d, p, b[0]);
-    put(d, p + 1, b[1]);
-    put(d, p + 2, b[2]);
-    put(d, p + 3, b[3]);
+    for (k, byte) in v.to_le_bytes().iter().enumerate() {
+        put(d, p + k, *byte);
+    }
 }
 
 // A number of each of `count` records of w bytes, the first at p: the first is v, and each is `more` above the one before.
@@ -130,7 +127,7 @@ fn put_checks(d: &mut [u8]) {
 fn change(d: &mut [u8], s: &[u8], deposit: bool) {
     let mut rest = s;
     // A change is as wide as its three numbers, so no range walks the line.
-    while rest.len() > 0 {
+    while !rest.is_empty() {
         let (kind, behind) = number(rest);
         let (place, behind) = number(behind);
         let (value, behind) = number(behind);
@@ -169,18 +166,12 @@ fn say_number(rt: &impl Print, n: u32) -> io::Result<()> {
     print!(rt; " {n}")
 }
 
-fn order_number(order: Endianness) -> u32 {
-    match order {
-        Endianness::Little => 0,
-        Endianness::Big => 1,
-    }
-}
-
-fn say_opened(rt: &impl Print, o: Result<View, Refusal>) -> io::Result<()> {
-    match o {
-        Ok(v) => {
+fn say_opened(rt: &impl Print, opened: Result<Object, Refusal>) -> io::Result<()> {
+    match opened {
+        Ok(object) => {
+            let v = object.records.view;
             say_number(rt, 0)?;
-            say_number(rt, order_number(v.order))?;
+            say_number(rt, v.order as u32)?;
             say_number(rt, v.sections)?;
             say_number(rt, v.symbols)?;
             say_number(rt, v.relocations)?;
@@ -240,7 +231,7 @@ fn run_line(rt: &impl Print, s: &[u8], d: &mut [u8]) -> io::Result<()> {
 fn run(rt: &impl Print, text: &[u8], d: &mut [u8]) -> io::Result<()> {
     let mut rest = text;
     // A line is as wide as its words, so no range walks the text.
-    while rest.len() > 0 {
+    while !rest.is_empty() {
         let (line, behind) = cut(rest, b'\n');
         run_line(rt, line, d)?;
         rest = behind;

@@ -7,7 +7,7 @@ use model::{
     Endianness, Extent, Head, LicenseError, ProgramSection, ProgramSectionError, SectionIndex,
     SectionRecord, SymbolIndex, SymbolRecord, VersionError,
 };
-use records::deposit_view;
+use records::{Records, deposit_view};
 use std::io;
 use stream::{Span, Stream};
 
@@ -189,20 +189,12 @@ fn empty_text() -> u64 {
         bytes: 0,
         reserved: 0,
     };
-    let t = [0u32; 0];
-    let mut numbers = [0u32; 1];
-    let parsed = parse_text::parse_text_section(
-        b"",
-        &t,
-        deposit_view(h),
-        text_section(0),
-        &[0u32; 1],
-        0,
-        0,
-        &mut numbers,
-        0,
-    );
-    match parsed {
+    let records = Records {
+        bytes: b"",
+        index: &[],
+        view: deposit_view(h),
+    };
+    match parse_text::parse_text_section(records, text_section(0), &[], &mut []) {
         Ok(n) => n as u64,
         Err(_) => 100,
     }
