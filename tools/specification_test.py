@@ -19,8 +19,10 @@ Bytes.AllBytes""".split()
 # The public calls. Of the kit's crates a contract may cite io, which says how many bytes are written.
 CALLS = [("load", "lib", "load"), ("load_elf", "lib", "load_elf"), ("rows_functions", "lib", "find"), ("buncoyew", "lib", "buncoyew_load"),
          ("buncoyew", "lib", "buncoyew_load_elf"), ("buncoyew", "lib", "buncoyew_find"),
-         ("load_numbers", "lib", "load_flat"), ("load_elf_numbers", "lib", "load_flat_elf"), ("listing", "main", "list"),
-         ("listing_elf", "main", "list")]
+         ("load_numbers", "lib", "load_flat"), ("load_elf_numbers", "lib", "load_flat_elf"), ("listed", "lib", "list")]
+
+# The programs whose text the contract of `list` tells: each says by which definition.
+LISTINGS = ["listing", "listing_elf"]
 BELIEVED = ("model", "io")
 
 
@@ -77,12 +79,20 @@ class Specification(unittest.TestCase):
     def test_contracts_of_calls_cite_the_model_alone(self):
         for crate, file, call in CALLS:
             text = read(os.path.join(TOP, "crates", crate, "src", f"{file}.rt"))
-            contract = re.search(rf"^(?:pub )?(?:extern \"C\" )?fn {call}\(.*?^\{{$", text, re.M | re.S).group(0)
-            words = set(re.split(r"[\s().,{}]+", contract))
-            cited = {name: owner for owner, names in re.findall(r"^ghost use Rattle\.(?!std\.)(\w+)\.\S*\{(.*)\};$", text, re.M)
-                     for name in re.split(r",\s*", names) if name.split(" as ")[-1] in words}
-            self.assertIn("model", cited.values(), call)
-            self.assertEqual({name: owner for name, owner in cited.items() if owner not in BELIEVED}, {}, call)
+            contract = re.search(rf"^(?:pub )?(?:extern \"C\" )?fn {call}(?:<[^(]*>)?\(.*?^\{{$", text, re.M | re.S).group(0)
+            self.assert_cites_model(contract, text, call)
+
+    def test_listings_are_of_the_model(self):
+        for crate in LISTINGS:
+            text = read(os.path.join(TOP, "crates", crate, "src", "main.rt"))
+            self.assert_cites_model(re.search(r"^    ghost text = \{ .* \};$", text, re.M).group(0), text, crate)
+
+    def assert_cites_model(self, contract, text, call):
+        words = set(re.split(r"[\s().,{}]+", contract))
+        cited = {name: owner for owner, names in re.findall(r"^ghost use Rattle\.(?!std\.)(\w+)\.\S*\{(.*)\};$", text, re.M)
+                 for name in re.split(r",\s*", names) if name.split(" as ")[-1] in words}
+        self.assertIn("model", cited.values(), call)
+        self.assertEqual({name: owner for name, owner in cited.items() if owner not in BELIEVED}, {}, call)
 
 
 if __name__ == "__main__":
