@@ -28,7 +28,7 @@ impl Listed for File {
 
     ghost bytes = { λ d. refl };
 
-    ghost is = { file-text };
+    ghost is = { file-text 1048576 };
 
     fn load(
         d: &[u8],

@@ -73,6 +73,6 @@ pub deposit-text : (room : Room) (d : List ℕ) → listing_of room d ≡ text_w
 unfolding listing_of text_within
 deposit-text room d = refl
 
-pub file-text : (room : Room) (f : List ℕ) → file_listing_of 1048576 room f ≡ text_within 1048576 26 (Input.file f) room
+pub file-text : (most : ℕ) (room : Room) (f : List ℕ) → file_listing_of most room f ≡ text_within most 26 (Input.file f) room
 unfolding file_listing_of text_within
-file-text room f = refl
+file-text most room f = refl

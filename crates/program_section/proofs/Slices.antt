@@ -1,13 +1,13 @@
 -- What std's methods answer, in the words of the definitions.
-use Rattle.std.proofs.Common.{◌≡◌, refl, cond, eqb, List, ℕ, ◌≤◌, min, length, take, position, nat_lt, Bool, true, false, arith, ltb-false, None, Some, ap}
+use Rattle.std.proofs.Common.{◌≡◌, refl, sym, ◌∙◌, cond, eqb, List, ℕ, ◌+◌, ◌-◌, ◌%◌, ◌≤◌, min, length, take, drop, take-take, position, nat_lt, Bool, true, false, arith, ltb-false, None, Some, ap}
 use Rattle.std.specs.Str.{bytes_eq}
 use Rattle.std.specs.List.{position_or_len}
 use Rattle.std.specs.Option.{unwrap_or}
 use Rattle.std.proofs.lemmas.List.Recursion.{is_position_or_len}
 use Rattle.model.specs.Bytes.{same}
 use Rattle.stream.specs.Same.{same-eq}
-use Rattle.stream.specs.Stream.{bytes_at, length-bytes}
-use Rattle.stream.specs.Laws.{take-bytes}
+use Rattle.stream.specs.Stream.{place, bytes_at}
+use Rattle.stream.specs.Laws.{bytes-block}
 use Rattle.program_section.specs.Pieces.{until, until-le}
 use Rattle.program_section.specs.Words.{word_table, word_number}
 use Rattle.program_section.specs.Window.{whole_word}
@@ -36,9 +36,11 @@ pub one_piece : (v : List ℕ) (m k : ℕ) → m ≤ length v → word_number wo
     → word_number word_table (take (min (until (take m v)) 18) v) ≡ Some k
 one_piece v m k h e = rw (whole_word v m k h e) at e
 
--- a name that begins a window
-pub window : (d : List ℕ) (gap p m n : ℕ) → m ≤ n → take m (bytes_at d gap p n) ≡ bytes_at d gap p m
-window d gap p m n h = take-bytes d gap p n m h
-
-pub window_length : (d : List ℕ) (gap p n : ℕ) → length (bytes_at d gap p n) ≡ n
-window_length d gap p n = length-bytes d gap p n
+-- a name that begins a window of 42 bytes of what was lent
+pub window : (d : List ℕ) (gap p m i : ℕ) → i ≡ place gap p → p % 508 + m ≤ 508 → m ≤ 42 → i + 42 ≤ length d
+    → take m (take (i + 42 - i) (drop i d)) ≡ bytes_at d gap p m
+window d gap p m i e h few inside =
+    let l : i + 42 - i ≡ 42 = omega arith in
+    take-take m (i + 42 - i) (drop i d) (omega arith)
+    ∙ ap (λ (k : ℕ). take m (drop k d)) e
+    ∙ sym (bytes-block d gap p m h (omega arith))

@@ -16,32 +16,38 @@ use records::{Object, end_of, names_at, relocations_at, symbols_at};
 use std::io;
 use std::num::wrapping_add_u32;
 
-// The word in front of s, and what is behind the byte c that ends it.
-fn cut(s: &[u8], c: u8) -> (&[u8], &[u8])
+// The line in front of s, and what is behind the byte that ends it.
+fn cut_line(s: &[u8]) -> (&[u8], &[u8])
     ensures { length result.1.now ≤ length s.now - 1 }
 {
-    match s.iter().position(|x| *x == c) {
+    match s.iter().position(|x| *x == b'\n') {
         Some(n) => (&s[..n], &s[n + 1..]),
         None => (s, &s[s.len()..]),
     }
 }
 
-// The number in front of s, and what is behind the byte that ends it.
+// The word in front of s, and what is behind it: the space first.
+fn cut_word(s: &[u8]) -> (&[u8], &[u8]) {
+    s.split_at(s.iter().position(|x| *x == b' ').unwrap_or(s.len()))
+}
+
+// The number behind the byte that s begins with, and what is behind it: no digit, or a digit behind one that the number is too large for.
 fn number(s: &[u8]) -> (u32, &[u8])
     ensures { length result.1.now ≤ length s.now - 1 }
 {
-    let mut value: u32 = 0;
-    for (i, c) in s.iter().enumerate() {
-        match c {
-            b'0'..=b'9' => {
-                value = value
-                    .saturating_mul(10)
-                    .saturating_add(u32::from(*c - b'0'));
-            }
-            _ => return (value, &s[i + 1..]),
+    let digits = &s[s.len().min(1)..];
+    let mut value: u64 = 0;
+    for (i, c) in digits.iter().enumerate() {
+        if !c.is_ascii_digit() || value > 4294967296 {
+            return (narrow(value), &digits[i..]);
         }
+        value = value * 10 + u64::from(*c - b'0');
     }
-    (value, &s[s.len()..])
+    (narrow(value), &digits[digits.len()..])
+}
+
+fn narrow(value: u64) -> u32 {
+    u32::try_from(value).unwrap_or(u32::MAX)
 }
 
 // Byte p of the stream.
@@ -126,7 +132,7 @@ fn put_checks(d: &mut [u8]) {
 // The changes of the stream, or those of the deposit.
 fn change(d: &mut [u8], s: &[u8], deposit: bool) {
     let mut rest = s;
-    // A change is as wide as its three numbers, so no range walks the line.
+    // A change is as wide as its three numbers, so no range walks the line. A byte that ends a line behind a number begins a change of zeros.
     while !rest.is_empty() {
         let (kind, behind) = number(rest);
         let (place, behind) = number(behind);
@@ -193,7 +199,9 @@ fn opened_length(given: u32, h: Head) -> usize
 }
 
 // The counts in front of s, and what is behind them.
-fn shape(s: &[u8]) -> (Head, &[u8]) {
+fn shape(s: &[u8]) -> (Head, &[u8])
+    ensures { length result.1.now ≤ length s.now }
+{
     let (sections, s) = number(s);
     let (symbols, s) = number(s);
     let (relocations, s) = number(s);
@@ -212,7 +220,7 @@ fn shape(s: &[u8]) -> (Head, &[u8]) {
 }
 
 fn run_line(rt: &impl Print, s: &[u8], d: &mut [u8]) -> io::Result<()> {
-    let (name, s) = cut(s, b' ');
+    let (name, s) = cut_word(s);
     let (expected, s) = number(s);
     let (head, s) = shape(s);
     let (given, changes) = number(s);
@@ -232,7 +240,7 @@ fn run(rt: &impl Print, text: &[u8], d: &mut [u8]) -> io::Result<()> {
     let mut rest = text;
     // A line is as wide as its words, so no range walks the text.
     while !rest.is_empty() {
-        let (line, behind) = cut(rest, b'\n');
+        let (line, behind) = cut_line(rest);
         run_line(rt, line, d)?;
         rest = behind;
     }

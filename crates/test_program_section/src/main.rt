@@ -1,10 +1,12 @@
 // Reads names, one a line, and writes each with the number of its variant and its two values, or with 8 where it is unknown.
 #![tactic(auto)]
 
+ghost use Rattle.std.specs.Prelude.{◌≤◌, length};
+
 use input::read_full;
 use model::{CgroupSkbAttachType, ProgramSection, ProgramSectionError};
 use std::io;
-use stream::Stream;
+use stream::{Span, Stream};
 
 fn cgroup_skb_number(attach_type: Option<CgroupSkbAttachType>) -> u8 {
     match attach_type {
@@ -50,13 +52,9 @@ fn numbers(p: ProgramSection) -> (u8, u8, u8) {
     }
 }
 
-fn put_line(rt: &impl Print, name: &[u8]) -> io::Result<()> {
-    rt.write_all(name)?;
-    let whole = Stream {
-        bytes: name,
-        gap: 0,
-    };
-    match program_section::from_str(whole.span(0, name.len())) {
+fn put_line(rt: &impl Print, text: &[u8], name: Span) -> io::Result<()> {
+    rt.write_all(text)?;
+    match program_section::from_str(name) {
         Ok(p) => {
             let (number, first, second) = numbers(p);
             println!(rt; " {number} {first} {second}")
@@ -65,9 +63,21 @@ fn put_line(rt: &impl Print, name: &[u8]) -> io::Result<()> {
     }
 }
 
-fn run(rt: &impl Print, names: &[u8]) -> io::Result<()> {
-    for line in names.split_inclusive(|b| *b == b'\n') {
-        put_line(rt, line.strip_suffix(b"\n").unwrap_or(line))?;
+// Each name is read where it lies among all, as a load reads it among an object's names.
+fn run(rt: &impl Print, names: &[u8]) -> io::Result<()>
+    requires { length names.now ≤ 65536 }
+{
+    let stream = Stream {
+        bytes: names,
+        gap: 0,
+    };
+    let mut at: usize = 0;
+    // A line is as wide as its name, so no range walks the names.
+    while at < names.len() {
+        let rest = &names[at..];
+        let n = rest.iter().position(|b| *b == b'\n').unwrap_or(rest.len());
+        put_line(rt, &rest[..n], stream.span(at, n))?;
+        at += n + 1;
     }
     Ok(())
 }
