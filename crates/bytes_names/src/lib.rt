@@ -31,7 +31,7 @@ pub fn copy_span(span: Span, out: &mut [u8])
     while done < out.len() {
         let m = run.room.min(out.len() - done);
         let (from, to) = (run.at, run.at + m);
-        out[done..done + m].copy_from_slice(&span.stream.bytes[from..to]);
+        lists::copy(&mut out[done..done + m], &span.stream.bytes[from..to]);
         run = span.stream.skip(run, m);
         done += m;
     }

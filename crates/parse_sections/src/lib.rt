@@ -79,7 +79,7 @@ fn by_address(records: Records, group: &[u32], order: &mut [u32], tmp: &mut [u32
     requires { (length order.old ≡ length group.now) × (length tmp.old ≡ length group.now) }
     ensures { order.new ≡ sorted (by_key (of (key_of By.SymbolAddress) records.entry)) group.now }
 {
-    order.copy_from_slice(group);
+    lists::copy(order, group);
     record_sort::sort(records, By::SymbolAddress, order, tmp);
 }
 
@@ -180,7 +180,7 @@ fn list_programs(kind: EbpfSectionKind, functions: &[u32], out: &mut [u32]) -> u
 {
     match kind {
         EbpfSectionKind::Program => {
-            out[..functions.len()].copy_from_slice(functions);
+            lists::copy(out, functions);
             functions.len()
         }
         _ => 0,

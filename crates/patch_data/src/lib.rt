@@ -37,7 +37,7 @@ fn patch_symbol(
 {
     let place = place_of(object, by, y).unwrap();
     let at = rows[27 * place + 5] as usize - own + y.address as usize;
-    bytes[at..at + source.len()].copy_from_slice(source);
+    lists::copy(&mut bytes[at..at + source.len()], source);
 }
 
 // Entry e, counted from 0, acts.

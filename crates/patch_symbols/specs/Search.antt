@@ -107,10 +107,17 @@ module _ (key : ℕ → List ℕ) (word l : List ℕ) where
     rises : (i j : ℕ) → i < j → j < length l → before (key_at j) (key_at i) ≡ false
     rises i j k m = not-true (before (key_at j) (key_at i)) (ordered_at (by_key key) (key-order key) l o i j k m)
 
-    -- where the key at m is before the word, those in front of it are too
+    -- what holds of the key at m holds of those in front of it, or of those behind it
     pub all-below : (m : ℕ) → m < length l → before (key_at m) word ≡ true → (i : ℕ) → i < m + 1 → before (key_at i) word ≡ true
     all-below m k q i n =
         let e : i ≤ m = omega arith in ⊎_elim (λ e. rw e q) (λ t. below-down word (key_at i) (key_at m) q (rises i m t k)) (eq-or-lt_of_le e)
+
+    pub all_above : (m : ℕ) → before (key_at m) word ≡ false → (i : ℕ) → m ≤ i → i < length l → before (key_at i) word ≡ false
+    all_above m q i n k = ⊎_elim (λ e. rw (← e) q) (λ t. go t (before (key_at i) word) refl) (eq-or-lt_of_le n)
+      where
+        go : m < i → (b : Bool) → before (key_at i) word ≡ b → before (key_at i) word ≡ false
+        go t true e = true-not-false (sym (below-down word (key_at m) (key_at i) e (rises m i t k)) ∙ q)
+        go t false e = e
 
 -- ---- those that have the word as key
 
@@ -258,10 +265,14 @@ module _ (d t : List ℕ) (v : View) where
     at_cut : (i : ℕ) → before (key_at key (length_first word) order i) (length_first word) ≡ before (key_at length_and_name (length_first word) order i) (length_first word)
     at_cut i = before-cut word s.bytes known (get_or order i 0)
 
-    -- where the name at m is before the word, those in front of it are too
+    -- what holds of the name at m holds of those in front of it, or of those behind it
     pub names-below : (m : ℕ) → m < length order → before (key_at length_and_name (length_first word) order m) (length_first word) ≡ true
         → (i : ℕ) → i < m + 1 → before (key_at length_and_name (length_first word) order i) (length_first word) ≡ true
     names-below m k q i n = sym (at_cut i) ∙ all-below key (length_first word) order ordered m k (at_cut m ∙ q) i n
+
+    pub names-above : (m : ℕ) → before (key_at length_and_name (length_first word) order m) (length_first word) ≡ false
+        → (i : ℕ) → m ≤ i → i < length order → before (key_at length_and_name (length_first word) order i) (length_first word) ≡ false
+    names-above m q i n k = sym (at_cut i) ∙ all_above key (length_first word) order ordered m (at_cut m ∙ q) i n k
 
     -- what a look at the first two that are not before the word tells
     module _ (r : ℕ) (f : FirstNotBefore length_and_name (length_first word) order r) where

@@ -71,7 +71,18 @@ fn lower_bound(records: Records, symbols: &[u32], word: &[u8]) -> usize
     requires { of Searchable records symbols.now (length word.now) × (length word.now ≤ 65535) }
     ensures { FirstNotBefore (of length_and_name records.entry) (length_first word.now) symbols.now result }
 {
-    symbols.partition_point(|j| is_before(records, *j, word))
+    let mut low = 0;
+    let mut high = symbols.len();
+    // The part that is left is halved, so its ends aren't a range to walk. std's `partition_point` asks once more, through a closure, and was slower.
+    while low < high {
+        let middle = low + (high - low) / 2;
+        if is_before(records, symbols[middle], word) {
+            low = middle + 1;
+        } else {
+            high = middle;
+        }
+    }
+    low
 }
 
 pub fn bearer_of(object: Object, symbols: &[u32], word: &[u8]) -> Bearer

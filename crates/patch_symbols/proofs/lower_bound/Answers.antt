@@ -1,20 +1,43 @@
--- `patch_symbols::lower_bound` meets its contract: a name that is before the word has only such names in front of it.
-use Rattle.std.proofs.Common.{ℕ, Bool, arith, rules, sym, ap, ◌∙◌}
-use Rattle.std.proofs.lemmas.Grind.{get_or_default_zero}
-use Rattle.std.proofs.lemmas.List.Sorted.{IsPartitionPoint-from_clause}
-use Rattle.std.specs.List.Sorted.{IsPartitionedBy}
-use Rattle.model.specs.Bytes.{before}
-use Rattle.patch_symbols.specs.Search.{length_and_name, length_first, names-below}
+-- `patch_symbols::lower_bound` meets its contract: in front of `low` each name is before the word, and from `high` on none is; each turn's name decides for those on its side.
+use Rattle.std.proofs.Common.{◌+◌, ◌-◌, ◌/◌, ◌<◌, arith, sym, ◌∙◌, length, not-suc-le-zero}
+use Rattle.patch_symbols.specs.Search.{names-below, names-above}
 use Rattle.patch_symbols.proofs.lower_bound.Goals as goal
+
+pub loop-low-init : goal.loop-low-init
+loop-low-init c =
+    record {
+      apart = omega arith;
+      within = omega arith;
+      below = λ i l. absurd (not-suc-le-zero l);
+      above = λ i l m. let no : ⊥ = omega arith in absurd no;
+    }
+
+pub loop-low-preserved-then-is_before : goal.loop-low-preserved-then-is_before
+loop-low-preserved-then-is_before c =
+    let l = c.loop-low in
+    let a = c.args in
+    let m = l.low + (l.high - l.low) / 2 in
+    let t : m < length a.symbols.now = omega arith in
+    record {
+      apart = omega arith;
+      within = omega arith;
+      below = names-below a.records.bytes.now a.records.index.now a.records.view a.word.now a.symbols.now c.requires.0 c.requires.1 m t (sym c.is_before.ensures ∙ c.if-is_before.true);
+      above = l.invariant.above;
+    }
+
+pub loop-low-preserved : goal.loop-low-preserved
+loop-low-preserved c =
+    let l = c.loop-low in
+    let a = c.args in
+    let m = l.low + (l.high - l.low) / 2 in
+    record {
+      apart = omega arith;
+      within = omega arith;
+      below = l.invariant.below;
+      above = names-above a.records.bytes.now a.records.index.now a.records.view a.word.now a.symbols.now c.requires.0 c.requires.1 m (sym c.is_before.ensures ∙ c.if-is_before.false);
+    }
 
 pub returns : goal.returns
 returns c =
-    let a = c.args in
-    let s = a.symbols.now in
-    let p : ℕ → Bool = λ j. before (length_and_name a.records.bytes.now a.records.index.now a.records.view j) (length_first a.word.now) in
-    let parted : IsPartitionedBy p s = λ i j x m l q.
-    ap p (get_or_default_zero s i x (omega arith))
-    ∙ names-below a.records.bytes.now a.records.index.now a.records.view a.word.now s c.requires.0 c.requires.1 j l (sym (ap p (get_or_default_zero s j x l)) ∙ q) i (omega arith)
-    in
-    let point = IsPartitionPoint-from_clause p _ _ c.partition_point.ensures.partitioned parted (λ a r q k. search rules) in
-    record { within = c.partition_point.ensures.bound; below = λ i l. point.0 i 0 (omega arith) l; above = λ i l m. point.1 i 0 l m }
+    let l = c.loop-low in
+    record { within = omega arith; below = l.invariant.below; above = λ i n m. l.invariant.above i (omega arith) m }

@@ -1,6 +1,7 @@
 -- `stream::copy_plain` meets its contract: bytes inside d are copied at once, and else one by one: those copied stand in front of what t had.
-use Rattle.std.proofs.Common.{◌≡◌, ℕ, ◌+◌, ◌-◌, get_or, sym, ap, ◌∙◌, arith, length}
+use Rattle.std.proofs.Common.{◌≡◌, ℕ, ◌+◌, ◌-◌, get_or, sym, ap, ◌∙◌, arith, length, length-take, length-drop}
 use Rattle.std.proofs.lemmas.Grind.{common_steps}
+use Rattle.lists.specs.Tab.{copied-whole}
 use Rattle.stream.specs.Stream.{place, byte_at}
 use Rattle.stream.specs.Laws.{copied_more, bytes-plain}
 use Rattle.stream.proofs.copy_plain.Goals as goal
@@ -9,7 +10,7 @@ pub returns-then-e-d : goal.returns-then-e-d
 returns-then-e-d c =
     let a = c.args in
     let e : a.i + length a.t.now - a.i ≡ length a.t.now = omega arith in
-    c.copy_from_slice.ensures.after ∙ rw e (sym (bytes-plain a.d.now a.i (length a.t.now) c.if-e-d.true))
+    c.copy.ensures ∙ copied-whole _ a.t.now (rw (length-take, length-drop) (omega (arith, c.if-e-d.true))) ∙ rw e (sym (bytes-plain a.d.now a.i (length a.t.now) c.if-e-d.true))
 
 pub loop-k-preserved : goal.loop-k-preserved
 unfolding byte_at

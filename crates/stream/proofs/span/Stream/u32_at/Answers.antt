@@ -1,10 +1,16 @@
--- `Stream::u32_at` meets its contract: std's number of the bytes is that of the model.
+-- `Stream::u32_at` meets its contract: in one block the slice has the bytes, else std's number of the copied bytes is that of the model.
 use Rattle.std.specs.Int.{w32}
-use Rattle.std.proofs.Common.{ap, ◌∙◌, length}
+use Rattle.std.proofs.Common.{ap, ◌∙◌, arith, length, take_all}
 use Rattle.model.specs.Bytes.{little}
 use Rattle.stream.specs.Stream.{length-bytes}
 use Rattle.stream.specs.Fields.{le-little}
 use Rattle.stream.proofs.span.Stream.u32_at.Goals as goal
 
-pub returns : goal.returns
-returns c = c.from_le_bytes.ensures ∙ le-little w32 _ (ap length c.array.ensures ∙ length-bytes _ _ _ _) ∙ ap little c.array.ensures
+pub four-requires : goal.four-requires
+four-requires c = rw (c.in-Some.ensures, length-bytes) (omega arith)
+
+pub returns-in-Some : goal.returns-in-Some
+returns-in-Some c = c.four.ensures ∙ ap little (take_all 4 _ (rw (c.in-Some.ensures, length-bytes) (omega arith)) ∙ c.in-Some.ensures)
+
+pub returns-in-None : goal.returns-in-None
+returns-in-None c = c.from_le_bytes.ensures ∙ le-little w32 _ (ap length c.array.ensures ∙ length-bytes _ _ _ _) ∙ ap little c.array.ensures
